@@ -1,0 +1,16 @@
+pub mod Words
+pub mod Order
+pub mod Least
+pub mod Pigeonhole
+pub mod Returns
+pub mod Normal
+pub mod Agreement
+pub mod Product
+pub mod Complement
+pub mod Enumerated
+pub mod Pumping
+pub mod Tests
+pub mod Emptiness
+pub mod Inclusion
+pub mod Reach
+pub mod OmegaWord

@@ -1,0 +1,100 @@
+-- Inclusion of two families with a counterexample (01: the comparison), and emptiness. Both are found by trying every
+-- lasso up to 01's bounds; laws of proofs/ say the same of lassos of every length. Assumes nothing.
+use mathlib.Core.Path.{_≡_}
+use mathlib.Core.Bool.{Bool, true, false, not, _&&_}
+use mathlib.Core.List.{List}
+use mathlib.Core.Logic.{_⊎_}
+use Prim.Native.Nat.{ℕ, zero, suc, _+_, _*_, max}
+use lib.Dec.{eqb}
+use Rattle.fdfa.specs.Words.{Over, Before}
+use Rattle.fdfa.specs.Family.{Fdfa, walk, Lasso}
+use Rattle.fdfa.specs.Normalization.{Normalized, preperiod, period}
+use Rattle.fdfa.specs.Acceptance.{accepts}
+use Rattle.fdfa.specs.Boolean.{beside}
+use Rattle.fdfa.specs.Enumeration.{isFound, firstWord, Witness, absent, lasso, firstLasso}
+
+-- A counterexample (01: a counter-show) is normalized in both, accepted by the first and rejected by the second.
+pub record Counterexample (F G : Fdfa) (u v : List ℕ) : Type 0 where
+  pub lasso : Lasso (F .letters) u v
+  pub first-closes : Normalized F u v
+  pub second-closes : Normalized G u v
+  pub accepted : accepts F u v ≡ true
+  pub rejected : accepts G u v ≡ false
+
+-- The first of the lassos with a property: every other one comes after it.
+pub record First (P : List ℕ → List ℕ → Type 0) (u v : List ℕ) : Type 0 where
+  pub has : P u v
+  pub least : (u′ v′ : List ℕ) → P u′ v′ → ((u ≡ u′) × (v ≡ v′)) ⊎ Before u v u′ v′
+
+-- What an answer says, of lassos of every length: none has the property, or it is the first that has.
+pub data Answers (P : List ℕ → List ℕ → Type 0) : Witness → Type 0 where
+  none-has : ((u v : List ℕ) → P u v → ⊥) → Answers P absent
+  first-is : {u v : List ℕ} → First P u v → Answers P (lasso u v)
+
+abbrev pub normalized : Fdfa → List ℕ → List ℕ → Bool
+normalized F u v = eqb (preperiod F u v) 0 && eqb (period F u v) 1
+
+abbrev pub counters : Fdfa → Fdfa → List ℕ → List ℕ → Bool
+counters F G u v = normalized F u v && normalized G u v && accepts F u v && not (accepts G u v)
+
+-- The largest of f 0, .., f (m − 1).
+unfoldable pub largest : ℕ → (ℕ → ℕ) → ℕ
+largest zero f = zero
+largest (suc m) f = max (largest m f) (f m)
+
+-- K of one family: the size of its largest progress automaton, over all leading states.
+abbrev pub widest : Fdfa → ℕ
+widest F = largest (F .states) (F .size)
+
+-- How many of the numbers 0, .., m − 1 pass.
+unfoldable pub countBelow : ℕ → (ℕ → Bool) → ℕ
+countBelow zero p = zero
+countBelow (suc m) p = elim (p m) [ true ↦ suc (countBelow m p) | false ↦ countBelow m p ]
+
+-- Some word leads the automaton f from its start to x.
+pub record Reached (s : ℕ) (f : ℕ → ℕ → ℕ) (x : ℕ) : Type 0 where
+  pub by : List ℕ
+  pub over : Over s by
+  pub goes : walk f 0 by ≡ x
+
+-- The same by trying every word of fewer letters than f has states.
+abbrev pub reaches : ℕ → ℕ → (ℕ → ℕ → ℕ) → ℕ → Bool
+reaches s n f x = isFound (firstWord s 0 n (λ w. eqb (walk f 0 w) x))
+
+-- R: how many states of the automaton some word reaches.
+abbrev pub reachedStates : ℕ → ℕ → (ℕ → ℕ → ℕ) → ℕ
+reachedStates s n f = countBelow n (reaches s n f)
+
+-- The pairs of leading states: how many (N), how they move, and K of both families.
+abbrev pub pairs : Fdfa → Fdfa → ℕ
+pairs F G = F .states * G .states
+
+abbrev pub pairStep : Fdfa → Fdfa → ℕ → ℕ → ℕ
+pairStep F G = beside (G .states) (F .step) (G .step)
+
+abbrev pub combinations : Fdfa → Fdfa → ℕ
+combinations F G = pairs F G * (widest F * widest G)
+
+pub record Comparison : Type 0 where
+  pub reached : ℕ
+  pub witness : Witness
+
+-- Contained, or the first counterexample; and R.
+abbrev pub comparison : Fdfa → Fdfa → Comparison
+comparison F G = record {
+  reached = reachedStates (F .letters) (pairs F G) (pairStep F G);
+  witness = firstLasso (F .letters) (pairs F G) (combinations F G) (counters F G);
+}
+
+-- A lasso that is normalized and accepted.
+pub record Accepted (F : Fdfa) (u v : List ℕ) : Type 0 where
+  pub lasso : Lasso (F .letters) u v
+  pub closes : Normalized F u v
+  pub accepted : accepts F u v ≡ true
+
+-- Empty, or the first accepted lasso that is normalized; and R.
+abbrev pub emptiness : Fdfa → Comparison
+emptiness F = record {
+  reached = reachedStates (F .letters) (F .states) (F .step);
+  witness = firstLasso (F .letters) (F .states) (F .states * widest F) (λ u v. normalized F u v && accepts F u v);
+}

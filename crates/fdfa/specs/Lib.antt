@@ -1,0 +1,10 @@
+pub mod Words
+pub mod Family
+pub mod Normalization
+pub mod Acceptance
+pub mod Boolean
+pub mod Enumeration
+pub mod Inclusion
+pub mod Invariance
+pub mod OmegaWord
+pub mod Refusals

@@ -1,0 +1,29 @@
+-- Refusals: what a definition of a call says where its input is at fault. Assumes nothing.
+use mathlib.Core.Bool.{Bool, true, false}
+use Prim.Native.Nat.{ℕ}
+use Rattle.fdfa.specs.declared.Part.{Part}
+use Rattle.fdfa.specs.declared.Refusal.{Refusal}
+
+pub data Fault : Type 0 where
+  sound : Fault
+  fault : Refusal → Fault
+
+infixr 30 _then_
+-- The tests of a call in their order: the first that is met is the refusal.
+abbrev pub _then_ : Fault → Fault → Fault
+sound then g = g
+fault r then g = fault r
+
+-- A row of the table: met when the test holds, with its number, part and place.
+abbrev pub when : Bool → ℕ → Part → ℕ → Fault
+when true number part place = fault (record { number = number; part = part; place = place })
+when false number part place = sound
+
+-- What a call says: its answer, or the refusal.
+pub data Result (A : Type 0) : Type 0 where
+  given : A → Result A
+  refused : Refusal → Result A
+
+abbrev pub unless : {A : Type 0} → Fault → A → Result A
+unless sound a = given a
+unless (fault r) a = refused r

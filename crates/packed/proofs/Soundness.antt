@@ -1,0 +1,228 @@
+-- A sheet is refused for nothing exactly if it is valid. Assumes nothing.
+use mathlib.Core.Path.{_≡_, refl, ap, sym, subst, _∙_}
+use mathlib.Core.Bool.{Bool, true, false, not, true≢false}
+use mathlib.Core.List.{List}
+use Prim.Native.Nat.{ℕ, zero, suc, _+_, _*_, _/_, _%_, _≤_, _<_}
+use native.Mathlib.Omega.{arith}
+use native.Mathlib.Decide.{ℕ-discrete}
+use native.Mathlib.Numerals.{add-one}
+use native.Mathlib.Nat.{div-add-mod', div-lt-iff-lt-mul, mod-lt}
+use lib.Arith.{digits-lt}
+use lib.Dec.{ltb, eqb}
+use lib.ListN.{length, getD}
+use borrow.Author.Tests.{le-ltb, ltb-false, eq-eqb, eqb-true, not-false}
+use Rattle.fdfa.specs.declared.Part.{Part}
+use Rattle.fdfa.specs.declared.Refusal.{Refusal}
+use Rattle.fdfa.specs.Family.{Closed, Complete}
+use Rattle.fdfa.specs.Refusals.{Fault, sound, fault, _then_, when, Result, given, refused, unless}
+use Rattle.fdfa.proofs.Least.{least-none}
+use Rattle.packed.specs.declared.Sizes.{Sizes}
+use Rattle.packed.specs.Layout.{letterCount, stateCount, sizeOf, leadingAt, progressAt, marksAt, sheetLength, tableStep, decode, Packable, Header, Valid}
+use Rattle.packed.specs.Faults.{outside, firstOutside, scan, progressFault, sheetFault, sizesOf, checked}
+use Rattle.packed.proofs.Scan.{inside, not-outside, all-inside, when-passes, scan-passes, passed}
+
+abbrev Faulty : Fault → Type 0
+Faulty sound = ⊥
+Faulty (fault r) = Unit {0}
+
+faulty : {r : Refusal} → fault r ≡ sound → ⊥
+faulty e = subst Faulty e tt
+
+-- nothing is refused only where no test is met
+then-left : (f g : Fault) → f then g ≡ sound → f ≡ sound
+then-left sound g e = refl
+then-left (fault r) g e = e
+
+then-right : (f g : Fault) → f then g ≡ sound → g ≡ sound
+then-right sound g e = e
+then-right (fault r) g e = absurd (faulty e)
+
+when-sound : (t : Bool) (number : ℕ) (part : Part) (place : ℕ) → when t number part place ≡ sound → t ≡ false
+when-sound true number part place e = absurd (faulty e)
+when-sound false number part place e = refl
+
+module _ (number : ℕ) (part : Part) (low limit : ℕ) (b : List ℕ) (at count : ℕ) where
+  scan-sound : scan number part low limit b at count ≡ sound → (k : ℕ) → k < count → (low ≤ getD b (at + k) 0) × (getD b (at + k) 0 < limit)
+  scan-sound e = all-inside low limit b at count (ltb-false _ count (when-sound _ number part _ e))
+
+  sound-scan : ((k : ℕ) → k < count → (low ≤ getD b (at + k) 0) × (getD b (at + k) 0 < limit)) → scan number part low limit b at count ≡ sound
+  unfolding firstOutside
+  sound-scan h =
+      scan-passes number part low limit b at count count (sym (least-none count (λ i. outside low limit (getD b (at + i) 0)) none)) (omega arith)
+    where
+      none : (k : ℕ) → k < count → outside low limit (getD b (at + k) 0) ≡ true → ⊥
+      none k l e = true≢false (sym e ∙ not-outside low limit (getD b (at + k) 0) (h k l .0) (h k l .1))
+
+-- The two tables of a leading state.
+record Good (b : List ℕ) (q : ℕ) : Type 0 where
+  pub next : (k : ℕ) → k < sizeOf b q * letterCount b → getD b (progressAt b q + k) 0 < sizeOf b q
+  pub marks : (p : ℕ) → p < sizeOf b q → getD b (marksAt b q + p) 0 < 2
+
+progress-good : (part : Part) (b : List ℕ) (c q : ℕ) → progressFault part b q c ≡ sound → (r : ℕ) → q ≤ r → r < q + c → Good b r
+unfolding progressFault
+progress-good part b zero q e r h l = absurd (omega arith)
+progress-good part b (suc c) q e r h l = by (ℕ-discrete q r) (progress-good part b c (suc q) after)
+  where
+    s5 : Fault
+    s5 = scan 5 part 0 (sizeOf b q) b (progressAt b q) (sizeOf b q * letterCount b)
+
+    s6 : Fault
+    s6 = scan 6 part 0 2 b (marksAt b q) (sizeOf b q)
+
+    rest : Fault
+    rest = progressFault part b (suc q) c
+
+    -- `then` groups to the right
+    later : s6 then rest ≡ sound
+    later = then-right s5 (s6 then rest) e
+
+    after : rest ≡ sound
+    after = then-right s6 rest later
+
+    here : Good b q
+    here = record {
+      next = λ k l. scan-sound 5 part 0 (sizeOf b q) b (progressAt b q) _ (then-left s5 (s6 then rest) e) k l .1;
+      marks = λ p l. scan-sound 6 part 0 2 b (marksAt b q) (sizeOf b q) (then-left s6 rest later) p l .1;
+    }
+
+    by : Dec (q ≡ r) → ((r : ℕ) → suc q ≤ r → r < suc q + c → Good b r) → Good b r
+    by (yes d) ih = subst (Good b) d here
+    by (no d) ih = ih r (omega arith) (omega arith)
+
+good-progress : (part : Part) (b : List ℕ) (c q : ℕ) → ((r : ℕ) → q ≤ r → r < q + c → Good b r) → progressFault part b q c ≡ sound
+unfolding progressFault
+good-progress part b zero q good = refl
+good-progress part b (suc c) q good =
+    passed _ (sound-scan 5 part 0 (sizeOf b q) b (progressAt b q) _ (λ k l. (omega arith, g .next k l)))
+    ∙ (passed _ (sound-scan 6 part 0 2 b (marksAt b q) (sizeOf b q) (λ k l. (omega arith, g .marks k l)))
+    ∙ good-progress part b c (suc q) (λ r h l. good r (omega arith) (omega arith)))
+  where
+    g : Good b q
+    g = good q (omega arith) (omega arith)
+
+module _ (part : Part) (b : List ℕ) where
+  t1 : Fault
+  t1 = when (ltb (length b) 2) 1 part (length b)
+
+  t2 : Fault
+  t2 = when (outside 1 33 (letterCount b)) 2 part 0
+
+  t3 : Fault
+  t3 = when (outside 1 33 (stateCount b)) 3 part 1
+
+  t4 : Fault
+  t4 = when (ltb (length b) (leadingAt b)) 1 part (length b)
+
+  t5 : Fault
+  t5 = scan 4 part 1 33 b 2 (stateCount b)
+
+  t6 : Fault
+  t6 = when (not (eqb (length b) (sheetLength b))) 1 part (length b)
+
+  t7 : Fault
+  t7 = scan 5 part 0 (stateCount b) b (leadingAt b) (stateCount b * letterCount b)
+
+  t8 : Fault
+  t8 = progressFault part b 0 (stateCount b)
+
+  pub sound-valid : sheetFault part b ≡ sound → Valid b
+  unfolding sheetFault t1 t2 t3 t4 t5 t6 t7 t8
+  sound-valid e = record {
+    header = record {
+      long = ltb-false (length b) (leadingAt b) (when-sound _ 1 part _ (then-left t4 _ e4));
+      some-letters = l .0;
+      few-letters = omega (arith, l .1);
+      some-states = n .0;
+      few-states = omega (arith, n .1);
+      some-size = λ q h. k q h .0;
+      few-size = λ q h. omega (arith, k q h .1);
+    };
+    exact = eqb-true (length b) (sheetLength b) (not-false _ (when-sound _ 1 part _ (then-left t6 _ e6)));
+    leads = λ q a h i. scan-sound 5 part 0 (stateCount b) b (leadingAt b) _ (then-left t7 t8 e7) (q * letterCount b + a) (digits-lt h i) .1;
+    progresses = λ q h p a i j. g q h .next (p * letterCount b + a) (digits-lt i j);
+    marks = λ q p h i. g q h .marks p i;
+  }
+    where
+      e2 : t2 then (t3 then (t4 then (t5 then (t6 then (t7 then t8))))) ≡ sound
+      e2 = then-right t1 _ e
+
+      e3 : t3 then (t4 then (t5 then (t6 then (t7 then t8)))) ≡ sound
+      e3 = then-right t2 _ e2
+
+      e4 : t4 then (t5 then (t6 then (t7 then t8))) ≡ sound
+      e4 = then-right t3 _ e3
+
+      e5 : t5 then (t6 then (t7 then t8)) ≡ sound
+      e5 = then-right t4 _ e4
+
+      e6 : t6 then (t7 then t8) ≡ sound
+      e6 = then-right t5 _ e5
+
+      e7 : t7 then t8 ≡ sound
+      e7 = then-right t6 _ e6
+
+      l : (1 ≤ letterCount b) × (letterCount b < 33)
+      l = inside 1 33 (letterCount b) (when-sound _ 2 part 0 (then-left t2 _ e2))
+
+      n : (1 ≤ stateCount b) × (stateCount b < 33)
+      n = inside 1 33 (stateCount b) (when-sound _ 3 part 1 (then-left t3 _ e3))
+
+      k : (q : ℕ) → q < stateCount b → (1 ≤ sizeOf b q) × (sizeOf b q < 33)
+      k = scan-sound 4 part 1 33 b 2 (stateCount b) (then-left t5 _ e5)
+
+      g : (q : ℕ) → q < stateCount b → Good b q
+      g q h = progress-good part b (stateCount b) 0 (then-right t7 t8 e7) q (omega arith) (omega arith)
+
+  pub valid-sound : Valid b → sheetFault part b ≡ sound
+  unfolding sheetFault
+  valid-sound v =
+      passed _ (when-passes 1 part _ (le-ltb (length b) 2 (omega (arith, h .long))))
+      ∙ (passed _ (when-passes 2 part 0 (not-outside 1 33 (letterCount b) (h .some-letters) (omega (arith, h .few-letters))))
+      ∙ (passed _ (when-passes 3 part 1 (not-outside 1 33 (stateCount b) (h .some-states) (omega (arith, h .few-states))))
+      ∙ (passed _ (when-passes 1 part _ (le-ltb (length b) (leadingAt b) (h .long)))
+      ∙ (passed _ (sound-scan 4 part 1 33 b 2 (stateCount b) (λ q l. (h .some-size q l, omega (arith, h .few-size q l))))
+      ∙ (passed _ (when-passes 1 part _ (ap not (eq-eqb (length b) (sheetLength b) (v .exact))))
+      ∙ (passed _ (sound-scan 5 part 0 (stateCount b) b (leadingAt b) _ (λ k l. (omega arith, entry (stateCount b) (leadingAt b) (v .leads) k l)))
+      ∙ good-progress part b (stateCount b) 0 (λ r i l. good r (omega arith))))))))
+    where
+      h : Header b
+      h = v .header
+
+      -- an entry of a table, by its place
+      entry : (k at : ℕ) → Closed (letterCount b) k (tableStep b at (letterCount b)) → (i : ℕ) → i < k * letterCount b → getD b (at + i) 0 < k
+      entry k at closed i l =
+          subst (λ (x : ℕ). getD b (at + x) 0 < k) (div-add-mod' i (letterCount b))
+          (closed (i / letterCount b) (i % letterCount b) (div-lt-iff-lt-mul (h .some-letters) .1 l) (mod-lt i (h .some-letters)))
+
+      good : (q : ℕ) → q < stateCount b → Good b q
+      good q l = record { next = entry (sizeOf b q) (progressAt b q) (v .progresses q l); marks = λ p i. v .marks q p l i }
+
+  -- the check says valid exactly of valid sheets
+  pub checked-valid : {z : Sizes} → checked part b ≡ given z → Valid b
+  checked-valid {z} e = sound-valid (by (sheetFault part b) e)
+    where
+      is-refused : Result Sizes → Type 0
+      is-refused (given z) = ⊥
+      is-refused (refused r) = Unit {0}
+
+      by : (f : Fault) → unless f (sizesOf b) ≡ given z → f ≡ sound
+      by sound d = refl
+      by (fault r) d = absurd (subst is-refused d tt)
+
+  pub valid-checked : Valid b → checked part b ≡ given (sizesOf b)
+  valid-checked v = ap (λ (f : Fault). unless f (sizesOf b)) (valid-sound v)
+
+-- the family of a valid sheet is complete, with every count from 1 to 32
+pub valid-packable : (b : List ℕ) → Valid b → Packable (decode b)
+valid-packable b v = record {
+  complete = record {
+    start = v .header .some-states;
+    leads = v .leads;
+    starts = v .header .some-size;
+    progresses = v .progresses;
+  };
+  some-letters = v .header .some-letters;
+  few-letters = v .header .few-letters;
+  few-states = v .header .few-states;
+  few-progress = v .header .few-size;
+}

@@ -1,0 +1,117 @@
+-- Tables of functions: their lengths, their entries, and how they join. Assumes nothing.
+use mathlib.Core.Path.{_≡_, refl, ap, ap₂, sym, subst, _∙_}
+use mathlib.Core.List.{List, [], _∷_, _++_, append-nil, append-assoc}
+use Prim.Native.Nat.{ℕ, zero, suc, _+_, _*_, _-_, _≤_, _<_}
+use native.Mathlib.Omega.{arith}
+use native.Mathlib.Decide.{ℕ-discrete}
+use native.Mathlib.Nat.{suc-mul, add-suc, add-zero}
+use lib.Arith.{digits-lt}
+use lib.ListN.{length, getD, length-append, List·getD-append}
+use lib.Seq.{getD-append-add, ext-getD}
+use Rattle.packed.specs.Tables.{tab, rows, sum}
+use Rattle.packed.specs.Layout.{table}
+
+pub length-tab : (m : ℕ) (f : ℕ → ℕ) → length (tab m f) ≡ m
+unfolding tab
+length-tab zero f = refl
+length-tab (suc m) f = length-append (tab m f) (f m ∷ []) ∙ omega (arith, length-tab m f)
+
+-- an entry of the first of two lists, and of the second
+pub getD-first : (xs ys : List ℕ) (i : ℕ) → i < length xs → getD (xs ++ ys) i 0 ≡ getD xs i 0
+getD-first xs ys i h = List·getD-append xs ys 0 i h
+
+pub getD-second : (xs ys : List ℕ) (n i : ℕ) → length xs ≡ n → getD (xs ++ ys) (n + i) 0 ≡ getD ys i 0
+getD-second xs ys n i e = ap (λ (m : ℕ). getD (xs ++ ys) (m + i) 0) (sym e) ∙ getD-append-add xs ys i 0
+
+pub getD-tab : (m : ℕ) (f : ℕ → ℕ) (i : ℕ) → i < m → getD (tab m f) i 0 ≡ f i
+unfolding tab
+getD-tab zero f i h = absurd (omega arith)
+getD-tab (suc m) f i h = by (ℕ-discrete i m) (getD-tab m f i)
+  where
+    by : Dec (i ≡ m) → (i < m → getD (tab m f) i 0 ≡ f i) → getD (tab m f ++ (f m ∷ [])) i 0 ≡ f i
+    by (yes e) ih =
+        let d : m + 0 ≡ i = omega arith in
+        ap (λ (j : ℕ). getD (tab m f ++ (f m ∷ [])) j 0) (sym d) ∙ (getD-second (tab m f) (f m ∷ []) m 0 (length-tab m f) ∙ ap f (sym e))
+    by (no e) ih = getD-first (tab m f) (f m ∷ []) i (omega (arith, length-tab m f)) ∙ ih (omega arith)
+
+-- a list is the table of its own entries
+pub tab-getD : (b : List ℕ) → tab (length b) (λ i. getD b i 0) ≡ b
+tab-getD b = ext-getD 0 (tab (length b) (λ i. getD b i 0)) b (length-tab (length b) _) (λ i h. getD-tab (length b) (λ i. getD b i 0) i (omega (arith, length-tab (length b) (λ i. getD b i 0))))
+
+pub tab-same : (m : ℕ) (f g : ℕ → ℕ) → ((i : ℕ) → i < m → f i ≡ g i) → tab m f ≡ tab m g
+unfolding tab
+tab-same zero f g h = refl
+tab-same (suc m) f g h = ap₂ (λ (l : List ℕ) (x : ℕ). l ++ (x ∷ [])) (tab-same m f g (λ i l. h i (omega arith))) (h m (omega arith))
+
+pub rows-same : (m : ℕ) (f g : ℕ → List ℕ) → ((i : ℕ) → i < m → f i ≡ g i) → rows m f ≡ rows m g
+unfolding rows
+rows-same zero f g h = refl
+rows-same (suc m) f g h = ap₂ (λ (l x : List ℕ). l ++ x) (rows-same m f g (λ i l. h i (omega arith))) (h m (omega arith))
+
+-- two tables in a row are one
+pub tab-append : (m k : ℕ) (f : ℕ → ℕ) → tab m f ++ tab k (λ i. f (m + i)) ≡ tab (m + k) f
+unfolding tab
+tab-append m zero f = append-nil (tab m f) ∙ ap (λ (n : ℕ). tab n f) (sym (add-zero m))
+tab-append m (suc k) f =
+    sym (append-assoc (tab m f) (tab k (λ i. f (m + i))) (f (m + k) ∷ []))
+    ∙ (ap (λ (l : List ℕ). l ++ (f (m + k) ∷ [])) (tab-append m k f) ∙ ap (λ (n : ℕ). tab n f) (sym (add-suc m k)))
+
+-- rows of any lengths, one after the other
+pub rows-tab : (m : ℕ) (len : ℕ → ℕ) (f : ℕ → ℕ) → rows m (λ q. tab (len q) (λ i. f (sum q len + i))) ≡ tab (sum m len) f
+unfolding rows sum tab
+rows-tab zero len f = refl
+rows-tab (suc m) len f =
+    ap (λ (l : List ℕ). l ++ tab (len m) (λ i. f (sum m len + i))) (rows-tab m len f) ∙ tab-append (sum m len) (len m) f
+
+pub sum-even : (m s : ℕ) → sum m (λ q. s) ≡ m * s
+unfolding sum
+sum-even zero s = omega arith
+sum-even (suc m) s = omega (arith, sum-even m s, suc-mul m s)
+
+pub sum-same : (m : ℕ) (f g : ℕ → ℕ) → ((i : ℕ) → i < m → f i ≡ g i) → sum m f ≡ sum m g
+unfolding sum
+sum-same zero f g h = refl
+sum-same (suc m) f g h = ap₂ (λ (x y : ℕ). x + y) (sum-same m f g (λ i l. h i (omega arith))) (h m (omega arith))
+
+-- a table of s letters a state, as one
+pub table-tab : (k s : ℕ) (f : ℕ → ℕ) → table k s (λ q a. f (q * s + a)) ≡ tab (k * s) f
+table-tab k s f =
+    rows-same k (λ q. tab s (λ a. f (q * s + a))) (λ q. tab s (λ i. f (sum q (λ r. s) + i))) (λ q h. ap (λ (n : ℕ). tab s (λ a. f (n + a))) (sym (sum-even q s)))
+    ∙ (rows-tab k (λ r. s) f ∙ ap (λ (n : ℕ). tab n f) (sum-even k s))
+
+pub length-rows : (m : ℕ) (f : ℕ → List ℕ) → length (rows m f) ≡ sum m (λ q. length (f q))
+unfolding rows sum
+length-rows zero f = refl
+length-rows (suc m) f = length-append (rows m f) (f m) ∙ ap (λ (n : ℕ). n + length (f m)) (length-rows m f)
+
+pub sum-rises : (m : ℕ) (f : ℕ → ℕ) (q i : ℕ) → q < m → i < f q → sum q f + i < sum m f
+unfolding sum
+sum-rises zero f q i h l = absurd (omega arith)
+sum-rises (suc m) f q i h l = by (ℕ-discrete q m) (sum-rises m f q i)
+  where
+    by : Dec (q ≡ m) → (q < m → i < f q → sum q f + i < sum m f) → sum q f + i < sum m f + f m
+    by (yes e) ih = let d : sum q f ≡ sum m f = ap (λ (n : ℕ). sum n f) e in omega (arith, ap f e)
+    by (no e) ih = omega (arith, ih (omega arith) l)
+
+-- an entry of a row
+pub getD-rows : (m : ℕ) (f : ℕ → List ℕ) (q i : ℕ) → q < m → i < length (f q) → getD (rows m f) (sum q (λ r. length (f r)) + i) 0 ≡ getD (f q) i 0
+unfolding rows
+getD-rows zero f q i h l = absurd (omega arith)
+getD-rows (suc m) f q i h l = by (ℕ-discrete q m) (getD-rows m f q i)
+  where
+    by : Dec (q ≡ m) → (q < m → i < length (f q) → getD (rows m f) (sum q (λ r. length (f r)) + i) 0 ≡ getD (f q) i 0) → getD (rows m f ++ f m) (sum q (λ r. length (f r)) + i) 0 ≡ getD (f q) i 0
+    by (yes e) ih =
+        ap (λ (n : ℕ). getD (rows m f ++ f m) (sum n (λ r. length (f r)) + i) 0) e
+        ∙ (getD-second (rows m f) (f m) _ i (length-rows m f) ∙ ap (λ (n : ℕ). getD (f n) i 0) (sym e))
+    by (no e) ih =
+        getD-first (rows m f) (f m) _ (rw (length-rows m f) (sum-rises m (λ r. length (f r)) q i (omega arith) l)) ∙ ih (omega arith) l
+
+pub length-table : (k s : ℕ) (f : ℕ → ℕ → ℕ) → length (table k s f) ≡ k * s
+length-table k s f =
+    length-rows k (λ q. tab s (f q)) ∙ (sum-same k (λ q. length (tab s (f q))) (λ q. s) (λ q h. length-tab s (f q)) ∙ sum-even k s)
+
+pub getD-table : (k s : ℕ) (f : ℕ → ℕ → ℕ) (q a : ℕ) → q < k → a < s → getD (table k s f) (q * s + a) 0 ≡ f q a
+getD-table k s f q a h l =
+    ap (λ (n : ℕ). getD (table k s f) (n + a) 0)
+    (sym (sum-same q (λ r. length (tab s (f r))) (λ r. s) (λ r i. length-tab s (f r)) ∙ sum-even q s))
+    ∙ (getD-rows k (λ r. tab s (f r)) q a h (rw (length-tab s (f q)) l) ∙ getD-tab s (f q) a l)

@@ -1,0 +1,59 @@
+-- Which refusal a packed sheet gets (01: "When the desk says no", 1 to 6), for any bytes. Assumes nothing.
+use mathlib.Core.Bool.{Bool, not, _||_}
+use mathlib.Core.List.{List}
+use Prim.Native.Nat.{ℕ, zero, suc, _+_, _*_}
+use lib.Dec.{eqb, ltb, leb}
+use lib.ListN.{length, getD}
+use Rattle.fdfa.specs.declared.Part.{Part}
+use Rattle.fdfa.specs.Normalization.{least}
+use Rattle.fdfa.specs.Inclusion.{widest}
+use Rattle.fdfa.specs.Refusals.{Fault, sound, _then_, when, Result, given, refused, unless}
+use Rattle.packed.specs.Layout.{letterCount, stateCount, sizeOf, leadingAt, progressAt, marksAt, sheetLength, decode}
+use Rattle.packed.specs.declared.Sizes.{Sizes}
+use Rattle.packed.specs.declared.Validity.{Validity}
+use Rattle.packed.specs.declared.Validity.the-variants.{Valid, Refused}
+
+-- c is not from `low` to `limit` − 1.
+abbrev pub outside : ℕ → ℕ → ℕ → Bool
+outside low limit c = ltb c low || leb limit c
+
+-- How many of `count` bytes from `at` on come before the first that is outside.
+unfoldable pub firstOutside : ℕ → ℕ → List ℕ → ℕ → ℕ → ℕ
+firstOutside low limit b at count = least count (λ i. outside low limit (getD b (at + i) 0))
+
+-- The first of them that is outside is refused, at its place.
+abbrev pub scan : ℕ → Part → ℕ → ℕ → List ℕ → ℕ → ℕ → Fault
+scan number part low limit b at count =
+    when (ltb (firstOutside low limit b at count) count) number part (at + firstOutside low limit b at count)
+
+-- The progress automata of c leading states from q on: next states below the size, then marks 0 or 1.
+unfoldable pub progressFault : Part → List ℕ → ℕ → ℕ → Fault
+progressFault part b q zero = sound
+progressFault part b q (suc c) =
+    scan 5 part 0 (sizeOf b q) b (progressAt b q) (sizeOf b q * letterCount b)
+    then scan 6 part 0 2 b (marksAt b q) (sizeOf b q)
+    then progressFault part b (suc q) c
+
+-- 1 (two bytes), 2, 3, 1 (sizes), 4, 1 (whole), then the first offending byte for 5 or 6. Counts run from 1 to 32.
+unfoldable pub sheetFault : Part → List ℕ → Fault
+sheetFault part b =
+    when (ltb (length b) 2) 1 part (length b)
+    then when (outside 1 33 (letterCount b)) 2 part 0
+    then when (outside 1 33 (stateCount b)) 3 part 1
+    then when (ltb (length b) (leadingAt b)) 1 part (length b)
+    then scan 4 part 1 33 b 2 (stateCount b)
+    then when (not (eqb (length b) (sheetLength b))) 1 part (length b)
+    then scan 5 part 0 (stateCount b) b (leadingAt b) (stateCount b * letterCount b)
+    then progressFault part b 0 (stateCount b)
+
+abbrev pub sizesOf : List ℕ → Sizes
+sizesOf b = record { letters = letterCount b; states = stateCount b; widest = widest (decode b) }
+
+-- What the check of a sheet says: its sizes, or the refusal.
+abbrev pub checked : Part → List ℕ → Result Sizes
+checked part b = unless (sheetFault part b) (sizesOf b)
+
+-- The answer of the code, by cases.
+abbrev pub saysOf : Validity → Result Sizes
+saysOf (Valid z) = given z
+saysOf (Refused r) = refused r
