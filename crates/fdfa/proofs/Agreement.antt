@@ -5,7 +5,7 @@ use mathlib.Core.List.{List, [], _∷_, _++_}
 use Prim.Native.Nat.{ℕ, _<_}
 use Rattle.fdfa.specs.Words.{Over, done, below, turns}
 use Rattle.fdfa.specs.Family.{Fdfa, Closed, Complete, walk, Lasso, Agrees}
-use Rattle.fdfa.specs.Normalization.{returnFrom, returning, after, preperiod, period}
+use Rattle.fdfa.specs.Normalization.{returnFrom, returning, after, preperiod, periodCount}
 use Rattle.fdfa.specs.Acceptance.{loopState, endState, accepts, Verdict, verdict}
 use Rattle.fdfa.proofs.Words.{over-append, over-turns, walk-closed}
 use Rattle.fdfa.proofs.Normal.{inside}
@@ -22,7 +22,7 @@ module _ (F G : Fdfa) (complete : Complete F) (same : Agrees F G) (u v : List �
   preperiod-same : preperiod F u v ≡ preperiod G u v
   preperiod-same = λ i. returning (same .states i) (λ t. after-same t i)
 
-  period-same : period F u v ≡ period G u v
+  period-same : periodCount F u v ≡ periodCount G u v
   period-same = λ i. returnFrom (same .states i) (λ t. after-same t i) (preperiod-same i)
 
   loop-same : loopState F u v ≡ loopState G u v
@@ -34,12 +34,12 @@ module _ (F G : Fdfa) (complete : Complete F) (same : Agrees F G) (u v : List �
   end-same : endState F u v ≡ endState G u v
   end-same =
       walk-same (complete .progresses (loopState F u v) loop-below) (λ p a. same .progresses (loopState F u v) p a loop-below) 0 (complete .starts (loopState F u v) loop-below)
-      (over-turns (period F u v) (lasso .period))
+      (over-turns (periodCount F u v) (lasso .period))
       ∙ (λ i. walk (G .progress (loop-same i)) 0 (turns v (period-same i)))
 
   end-below : endState F u v < F .size (loopState F u v)
   end-below =
-      walk-closed (complete .progresses (loopState F u v) loop-below) (complete .starts (loopState F u v) loop-below) (over-turns (period F u v) (lasso .period))
+      walk-closed (complete .progresses (loopState F u v) loop-below) (complete .starts (loopState F u v) loop-below) (over-turns (periodCount F u v) (lasso .period))
 
   accepts-same : accepts F u v ≡ accepts G u v
   accepts-same =

@@ -4,7 +4,7 @@ use mathlib.Core.Bool.{not}
 use mathlib.Core.List.{List}
 use Prim.Native.Nat.{ℕ}
 use Rattle.fdfa.specs.Family.{Fdfa, Complete}
-use Rattle.fdfa.specs.Normalization.{preperiod, period}
+use Rattle.fdfa.specs.Normalization.{preperiod, periodCount}
 use Rattle.fdfa.specs.Acceptance.{loopState, endState, accepts}
 use Rattle.fdfa.specs.Boolean.{complement}
 use Rattle.fdfa.specs.Invariance.{TurnProof}
@@ -13,7 +13,7 @@ pub complement-reverses : (F : Fdfa) (u v : List ℕ) → accepts (complement F)
 complement-reverses F u v = refl
 
 pub complement-keeps : (F : Fdfa) (u v : List ℕ)
-    → (preperiod (complement F) u v ≡ preperiod F u v) × (period (complement F) u v ≡ period F u v) × (loopState (complement F) u v ≡ loopState F u v) × (endState (complement F) u v ≡ endState F u v)
+    → (preperiod (complement F) u v ≡ preperiod F u v) × (periodCount (complement F) u v ≡ periodCount F u v) × (loopState (complement F) u v ≡ loopState F u v) × (endState (complement F) u v ≡ endState F u v)
 complement-keeps F u v = (refl, refl, refl, refl)
 
 pub complement-complete : (F : Fdfa) → Complete F → Complete (complement F)

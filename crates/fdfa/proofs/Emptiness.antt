@@ -13,7 +13,7 @@ use lib.Dec.{eqb}
 use borrow.Author.Tests.{eq-eqb, eqb-true}
 use Rattle.fdfa.specs.Words.{Over, turns, Shortlex, Before, by-prefix, by-period}
 use Rattle.fdfa.specs.Family.{Fdfa, Closed, Complete, walk, Lasso}
-use Rattle.fdfa.specs.Normalization.{preperiod, period, Normalized}
+use Rattle.fdfa.specs.Normalization.{preperiod, periodCount, Normalized}
 use Rattle.fdfa.specs.Acceptance.{accepts}
 use Rattle.fdfa.specs.Boolean.{beside}
 use Rattle.fdfa.specs.Enumeration.{Witness, absent, lasso, firstLasso}
@@ -188,12 +188,12 @@ module _ (F : Fdfa) (complete : Complete F) where
 pub normalized-says : (F : Fdfa) (u v : List ℕ) → normalized F u v ≡ true → Normalized F u v
 normalized-says F u v e = record {
   no-preperiod = eqb-true (preperiod F u v) 0 (and-left (eqb (preperiod F u v) 0) _ e);
-  one-turn = eqb-true (period F u v) 1 (and-right (eqb (preperiod F u v) 0) _ e);
+  one-turn = eqb-true (periodCount F u v) 1 (and-right (eqb (preperiod F u v) 0) _ e);
 }
 
 pub normalized-passes : (F : Fdfa) (u v : List ℕ) → Normalized F u v → normalized F u v ≡ true
 normalized-passes F u v c =
-    both (eqb (preperiod F u v) 0) _ (eq-eqb (preperiod F u v) 0 (c .no-preperiod)) (eq-eqb (period F u v) 1 (c .one-turn))
+    both (eqb (preperiod F u v) 0) _ (eq-eqb (preperiod F u v) 0 (c .no-preperiod)) (eq-eqb (periodCount F u v) 1 (c .one-turn))
 
 module _ (F : Fdfa) (complete : Complete F) where
   test : List ℕ → List ℕ → Bool
@@ -221,7 +221,7 @@ module _ (F : Fdfa) (complete : Complete F) where
   emptiness-bounds = search-bounds F complete (widest F) (largest-le (F .states) (F .size)) test test-sound test-passes
 
   -- every accepted lasso gives an accepted one that is normalized
-  pub accepted-normalized : (u v : List ℕ) → Lasso (F .letters) u v → accepts F u v ≡ true → Accepted F (u ++ turns v (preperiod F u v)) (turns v (period F u v))
+  pub accepted-normalized : (u v : List ℕ) → Lasso (F .letters) u v → accepts F u v ≡ true → Accepted F (u ++ turns v (preperiod F u v)) (turns v (periodCount F u v))
   accepted-normalized u v l e =
       let n = normalization F complete u v l in
       record { lasso = n .lasso; closes = n .closes; accepted = n .agrees ∙ e }

@@ -8,7 +8,7 @@ use native.Mathlib.Nat.{mul-le-mul, mod-lt}
 use lib.ListN.{length}
 use Rattle.fdfa.specs.Words.{Over, turns}
 use Rattle.fdfa.specs.Family.{Fdfa, Complete, walk, Lasso}
-use Rattle.fdfa.specs.Normalization.{preperiod, period, Normalized}
+use Rattle.fdfa.specs.Normalization.{preperiod, periodCount, Normalized}
 use Rattle.fdfa.specs.Acceptance.{accepts}
 use Rattle.fdfa.specs.Boolean.{product}
 use Rattle.fdfa.specs.Invariance.{TurnProof}
@@ -108,33 +108,34 @@ module _ (F G : Fdfa) (alike : F .letters ≡ G .letters) (CF : Complete F) (CG 
   pub same-pair : (u u′ v : List ℕ) → Over (F .letters) u′ → walk (pairStep F G) 0 u′ ≡ walk (pairStep F G) 0 u → Counterexample F G u v → Counterexample F G u′ v
   same-pair u u′ v o e c = accepted-counterexample u′ v (same-prefix P CP u u′ v o e (counterexample-accepted u v c))
 
+  -- where no lasso at all is accepted by the first and rejected by the second, it is contained
+  pub all-contained : ((u v : List ℕ) → Lasso (F .letters) u v → accepts F u v ≡ true → accepts G u v ≡ false → ⊥) → comparison F G .witness ≡ absent
+  all-contained n = answers-unique comparison-answers (none-has (λ u v c. n u v (c .lasso) (c .accepted) (c .rejected)))
+
   module _ (TF : TurnProof F) (TG : TurnProof G) where
     -- a lasso that the first accepts and the second rejects gives a counterexample
     pub turned-counterexample : (u v : List ℕ) → Lasso (F .letters) u v → accepts F u v ≡ true → accepts G u v ≡ false
-        → Counterexample F G (u ++ turns v (preperiod P u v)) (turns v (period P u v))
+        → Counterexample F G (u ++ turns v (preperiod P u v)) (turns v (periodCount P u v))
     turned-counterexample u v l a r = record {
       lasso = n .lasso;
       first-closes = c .0;
       second-closes = c .1;
-      accepted = TF u v l (preperiod P u v) (period P u v) some ∙ a;
-      rejected = TG u v (rw (← alike) l) (preperiod P u v) (period P u v) some ∙ r;
+      accepted = TF u v l (preperiod P u v) (periodCount P u v) some ∙ a;
+      rejected = TG u v (rw (← alike) l) (preperiod P u v) (periodCount P u v) some ∙ r;
     }
       where
-        n : Normalization P u v (u ++ turns v (preperiod P u v)) (turns v (period P u v))
+        n : Normalization P u v (u ++ turns v (preperiod P u v)) (turns v (periodCount P u v))
         n = normalization P CP u v l
 
-        c : Normalized F (u ++ turns v (preperiod P u v)) (turns v (period P u v)) × Normalized G (u ++ turns v (preperiod P u v)) (turns v (period P u v))
+        c : Normalized F (u ++ turns v (preperiod P u v)) (turns v (periodCount P u v)) × Normalized G (u ++ turns v (preperiod P u v)) (turns v (periodCount P u v))
         c = product-parts butNot F G alike CF CG _ _ (n .lasso) (n .closes)
 
-        some : 0 < period P u v
+        some : 0 < periodCount P u v
         some = normal P CP u v l .turned
 
-    -- contained exactly if no lasso at all is accepted by the first and rejected by the second
+    -- and contained means that there is no such lasso at all
     pub contained-all : comparison F G .witness ≡ absent → (u v : List ℕ) → Lasso (F .letters) u v → accepts F u v ≡ true → accepts G u v ≡ false → ⊥
     contained-all e u v l a r = by (subst (Answers (Counterexample F G)) e comparison-answers)
       where
         by : Answers (Counterexample F G) absent → ⊥
         by (none-has n) = n _ _ (turned-counterexample u v l a r)
-
-    pub all-contained : ((u v : List ℕ) → Lasso (F .letters) u v → accepts F u v ≡ true → accepts G u v ≡ false → ⊥) → comparison F G .witness ≡ absent
-    all-contained n = answers-unique comparison-answers (none-has (λ u v c. n u v (c .lasso) (c .accepted) (c .rejected)))

@@ -5,10 +5,17 @@ use Prim.Native.Nat.{ℕ, zero, suc, _+_, _≤_, _<_}
 use native.Mathlib.Omega.{arith}
 use Rattle.fdfa.specs.Words.{turns}
 use Rattle.fdfa.specs.Family.{Fdfa, Complete, walk, Lasso}
-use Rattle.fdfa.specs.Normalization.{Smallest, after, preperiod, period, Normalized}
+use Rattle.fdfa.specs.Normalization.{Smallest, after, preperiod, periodCount, Normalized}
 use Rattle.fdfa.specs.Acceptance.{loopState, endState, accepts}
-use Rattle.fdfa.proofs.Words.{over-append, over-turns, turns-one, turns-on, lasso-turned, walk-append, walk-closed}
+use Rattle.fdfa.proofs.Words.{over-append, over-turns, turns-one, turns-add, turns-on, lasso-turned, walk-append, walk-closed}
 use Rattle.fdfa.proofs.Returns.{Follows, smallest, few, first-return}
+
+-- after equally many further turns, equal states are equal again
+pub turns-follow : (f : ℕ → ℕ → ℕ) (q : ℕ) (v : List ℕ) → Follows (λ t. walk f q (turns v t))
+turns-follow f q v a b k e = on a ∙ (ap (λ (x : ℕ). walk f x (turns v k)) e ∙ sym (on b))
+  where
+    on : (c : ℕ) → walk f q (turns v (c + k)) ≡ walk f (walk f q (turns v c)) (turns v k)
+    on c = ap (walk f q) (turns-add v c k) ∙ walk-append f q (turns v c) (turns v k)
 
 -- u and a turns, then k more
 pub after-add : (F : Fdfa) (u v : List ℕ) (a k : ℕ) → after F u v (a + k) ≡ walk (F .step) (after F u v a) (turns v k)
@@ -30,15 +37,15 @@ module _ (F : Fdfa) (complete : Complete F) (u v : List ℕ) (lasso : Lasso (F .
   inside t = walk-closed (complete .leads) (complete .start) (over-append (lasso .prefix) (over-turns t (lasso .period)))
 
   -- i and j exist, and each is the smallest by itself
-  pub normal : Smallest (after F u v) (preperiod F u v) (period F u v)
+  pub normal : Smallest (after F u v) (preperiod F u v) (periodCount F u v)
   normal = smallest (F .states) (after F u v) follows inside
 
-  pub few-turns : preperiod F u v + period F u v ≤ F .states
+  pub few-turns : preperiod F u v + periodCount F u v ≤ F .states
   few-turns = few (F .states) (after F u v) follows inside
 
   -- the first repeated state shows i and j
   pub by-first-return : (i j : ℕ) → 1 ≤ j → after F u v i ≡ after F u v (i + j) → ((a b : ℕ) → a < b → b < i + j → after F u v a ≡ after F u v b → ⊥)
-      → (preperiod F u v ≡ i) × (period F u v ≡ j)
+      → (preperiod F u v ≡ i) × (periodCount F u v ≡ j)
   by-first-return = first-return (F .states) (after F u v) follows inside
 
   -- a lasso is normalized exactly if one turn leads back
@@ -52,11 +59,11 @@ module _ (F : Fdfa) (complete : Complete F) (u v : List ℕ) (lasso : Lasso (F .
   normalized-back c =
       let same : after F u v 0 ≡ after F u v (0 + 1) =
       subst (λ (j : ℕ). after F u v 0 ≡ after F u v (0 + j)) (c .one-turn)
-      (subst (λ (i : ℕ). after F u v i ≡ after F u v (i + period F u v)) (c .no-preperiod) (normal .same)) in
+      (subst (λ (i : ℕ). after F u v i ≡ after F u v (i + periodCount F u v)) (c .no-preperiod) (normal .same)) in
       sym (after-one F u v) ∙ (sym same ∙ after-none F u v)
 
-  lasso′ : Lasso (F .letters) (u ++ turns v (preperiod F u v)) (turns v (period F u v))
-  lasso′ = lasso-turned lasso (preperiod F u v) (period F u v) (normal .turned)
+  lasso′ : Lasso (F .letters) (u ++ turns v (preperiod F u v)) (turns v (periodCount F u v))
+  lasso′ = lasso-turned lasso (preperiod F u v) (periodCount F u v) (normal .turned)
 
 -- the verdict of a normalized lasso: one turn in the progress automaton of the state after u
 pub normalized-loop : (F : Fdfa) (u v : List ℕ) → Normalized F u v → loopState F u v ≡ walk (F .step) 0 u
@@ -64,7 +71,7 @@ normalized-loop F u v c = ap (after F u v) (c .no-preperiod) ∙ after-none F u 
 
 pub normalized-end : (F : Fdfa) (u v : List ℕ) → Normalized F u v → endState F u v ≡ walk (F .progress (walk (F .step) 0 u)) 0 v
 normalized-end F u v c =
-    ap (λ (q : ℕ). walk (F .progress q) 0 (turns v (period F u v))) (normalized-loop F u v c)
+    ap (λ (q : ℕ). walk (F .progress q) 0 (turns v (periodCount F u v))) (normalized-loop F u v c)
     ∙ ap (walk (F .progress (walk (F .step) 0 u)) 0) (ap (turns v) (c .one-turn) ∙ turns-one v)
 
 pub normalized-accepts : (F : Fdfa) (u v : List ℕ) → Normalized F u v
@@ -80,18 +87,18 @@ pub record Normalization (F : Fdfa) (u v x y : List ℕ) : Type 0 where
   pub agrees : accepts F x y ≡ accepts F u v
 
 pub normalization : (F : Fdfa) → Complete F → (u v : List ℕ) → Lasso (F .letters) u v
-    → Normalization F u v (u ++ turns v (preperiod F u v)) (turns v (period F u v))
+    → Normalization F u v (u ++ turns v (preperiod F u v)) (turns v (periodCount F u v))
 normalization F complete u v lasso = record { lasso = l; closes = c; agrees = normalized-accepts F x y c }
   where
     x : List ℕ
     x = u ++ turns v (preperiod F u v)
 
     y : List ℕ
-    y = turns v (period F u v)
+    y = turns v (periodCount F u v)
 
     l : Lasso (F .letters) x y
     l = lasso′ F complete u v lasso
 
     c : Normalized F x y
     c = back-normalized F complete x y l
-        (sym (after-add F u v (preperiod F u v) (period F u v)) ∙ sym (normal F complete u v lasso .same))
+        (sym (after-add F u v (preperiod F u v) (periodCount F u v)) ∙ sym (normal F complete u v lasso .same))

@@ -1,7 +1,7 @@
 -- The product of two families: it is complete, and its verdict is both, or either, for every lasso that is normalized in
 -- both, and for every lasso if both families are turn-proof (002, Theorem 4.3). Said once, over the operation. Assumes nothing.
 use mathlib.Core.Path.{_≡_, refl, ap, ap₂, sym, subst, _∙_}
-use mathlib.Core.Bool.{Bool, not}
+use mathlib.Core.Bool.{Bool, _&&_, _||_}
 use mathlib.Core.List.{List, [], _∷_, _++_}
 use Prim.Native.Nat.{ℕ, zero, suc, _+_, _*_, _/_, _%_, _≤_, _<_}
 use native.Mathlib.Omega.{arith}
@@ -9,9 +9,9 @@ use native.Mathlib.Nat.{zero-mul, mul-pos, mod-lt, div-lt-iff-lt-mul, div-add-mo
 use lib.Arith.{digits-lt, digits-div, digits-mod}
 use Rattle.fdfa.specs.Words.{Over, done, below, turns}
 use Rattle.fdfa.specs.Family.{Fdfa, Closed, Complete, walk, Lasso}
-use Rattle.fdfa.specs.Normalization.{preperiod, period, Normalized}
+use Rattle.fdfa.specs.Normalization.{preperiod, periodCount, Normalized}
 use Rattle.fdfa.specs.Acceptance.{accepts}
-use Rattle.fdfa.specs.Boolean.{beside, product}
+use Rattle.fdfa.specs.Boolean.{beside, product, intersection, union}
 use Rattle.fdfa.specs.Invariance.{TurnProof}
 use Rattle.fdfa.proofs.Words.{walk-closed}
 use Rattle.fdfa.proofs.Normal.{normal, back-normalized, normalized-back, normalized-accepts, Normalization, normalization}
@@ -134,17 +134,17 @@ module _ (op : Bool → Bool → Bool) (F G : Fdfa) (alike : F .letters ≡ G .l
             ∙ ap₂ (λ (y z : ℕ). op (F .accepting p y) (G .accepting q z)) (digits-div (walk (F .progress p) 0 v) end-below) (digits-mod (walk (F .progress p) 0 v) end-below))
 
   -- the verdict of the product, of every lasso, where further turns leave both verdicts alone
-  pub product-turn-proof : TurnProof F → TurnProof G → (u v : List ℕ) → Lasso (F .letters) u v → accepts P u v ≡ op (accepts F u v) (accepts G u v)
-  product-turn-proof tf tg u v lasso =
+  pub product-of-turn-proof : TurnProof F → TurnProof G → (u v : List ℕ) → Lasso (F .letters) u v → accepts P u v ≡ op (accepts F u v) (accepts G u v)
+  product-of-turn-proof tf tg u v lasso =
       sym (n .agrees)
       ∙ (product-closing x y (n .lasso) (c .0) (c .1)
-      ∙ ap₂ op (tf u v lasso (preperiod P u v) (period P u v) some) (tg u v (rw (← alike) lasso) (preperiod P u v) (period P u v) some))
+      ∙ ap₂ op (tf u v lasso (preperiod P u v) (periodCount P u v) some) (tg u v (rw (← alike) lasso) (preperiod P u v) (periodCount P u v) some))
     where
       x : List ℕ
       x = u ++ turns v (preperiod P u v)
 
       y : List ℕ
-      y = turns v (period P u v)
+      y = turns v (periodCount P u v)
 
       n : Normalization P u v x y
       n = normalization P product-complete u v lasso
@@ -152,5 +152,19 @@ module _ (op : Bool → Bool → Bool) (F G : Fdfa) (alike : F .letters ≡ G .l
       c : Normalized F x y × Normalized G x y
       c = product-parts x y (n .lasso) (n .closes)
 
-      some : 0 < period P u v
+      some : 0 < periodCount P u v
       some = normal P product-complete u v lasso .turned
+
+-- The same by name: intersection and union.
+module _ (F G : Fdfa) (alike : F .letters ≡ G .letters) (CF : Complete F) (CG : Complete G) (u v : List ℕ) (lasso : Lasso (F .letters) u v) where
+  pub intersection-closing : Normalized F u v → Normalized G u v → accepts (intersection F G) u v ≡ accepts F u v && accepts G u v
+  intersection-closing = product-closing _&&_ F G alike CF CG u v lasso
+
+  pub union-closing : Normalized F u v → Normalized G u v → accepts (union F G) u v ≡ accepts F u v || accepts G u v
+  union-closing = product-closing _||_ F G alike CF CG u v lasso
+
+  pub intersection-of-turn-proof : TurnProof F → TurnProof G → accepts (intersection F G) u v ≡ accepts F u v && accepts G u v
+  intersection-of-turn-proof tf tg = product-of-turn-proof _&&_ F G alike CF CG tf tg u v lasso
+
+  pub union-of-turn-proof : TurnProof F → TurnProof G → accepts (union F G) u v ≡ accepts F u v || accepts G u v
+  union-of-turn-proof tf tg = product-of-turn-proof _||_ F G alike CF CG tf tg u v lasso

@@ -2,9 +2,11 @@
 use mathlib.Core.Path.{_≡_, refl, ap, sym, subst, _∙_}
 use mathlib.Core.List.{List, [], _∷_, _++_, append-nil, append-assoc}
 use Prim.Native.Nat.{ℕ, zero, suc, _+_, _*_, _≤_, _<_}
-use native.Mathlib.Nat.{suc-add, zero-add, zero-mul, suc-mul, add-comm, mul-suc, mul-zero}
+use native.Mathlib.Nat.{suc-add, zero-add, zero-mul, suc-mul, add-comm, mul-suc, mul-zero, le-of-suc-le-suc}
 use native.Mathlib.Omega.{arith}
-use lib.ListN.{length, take, drop, length-append}
+use native.Mathlib.Numerals.{add-one}
+use lib.ListN.{length, getD, take, drop, length-append}
+use lib.Seq.{take-suc, take-all}
 use Rattle.fdfa.specs.Words.{Over, done, below, turns}
 use Rattle.fdfa.specs.Family.{Closed, walk, Lasso}
 
@@ -87,3 +89,28 @@ over-drop zero done = done
 over-drop zero (below h o) = below h o
 over-drop (suc n) done = done
 over-drop (suc n) (below h o) = over-drop n o
+
+-- one letter more
+pub walk-take : (f : ℕ → ℕ → ℕ) (q : ℕ) (w : List ℕ) (i : ℕ) → i < length w → walk f q (take (i + 1) w) ≡ f (walk f q (take i w)) (getD w i 0)
+walk-take f q w i h =
+    ap (λ (n : ℕ). walk f q (take n w)) (add-one i)
+    ∙ (ap (walk f q) (take-suc w i 0 h) ∙ walk-append f q (take i w) (getD w i 0 ∷ []))
+
+pub walk-all : (f : ℕ → ℕ → ℕ) (q : ℕ) (w : List ℕ) (i : ℕ) → length w ≤ i → walk f q (take i w) ≡ walk f q w
+walk-all f q w i h = ap (walk f q) (take-all i w h)
+
+-- a letter is below the letter count
+pub over-letter : {s : ℕ} {w : List ℕ} → Over s w → (i : ℕ) → i < length w → getD w i 0 < s
+over-letter done i h = absurd (omega arith)
+over-letter (below l o) zero h = l
+over-letter (below l o) (suc i) h = over-letter o i (le-of-suc-le-suc h)
+
+pub letters-over : (s : ℕ) (w : List ℕ) → ((i : ℕ) → i < length w → getD w i 0 < s) → Over s w
+letters-over s [] h = done
+letters-over s (a ∷ w) h = below (h 0 (omega arith)) (letters-over s w (λ i l. h (suc i) (omega arith)))
+
+-- one turn more
+pub walk-turn : (f : ℕ → ℕ → ℕ) (q : ℕ) (v : List ℕ) (t : ℕ) → walk f (walk f q (turns v t)) v ≡ walk f q (turns v (t + 1))
+walk-turn f q v t =
+    sym (walk-append f q (turns v t) v)
+    ∙ ap (walk f q) (ap (λ (w : List ℕ). turns v t ++ w) (sym (turns-one v)) ∙ sym (turns-add v t 1))

@@ -4,7 +4,7 @@ use mathlib.Core.List.{List}
 use Prim.Native.Nat.{ℕ}
 use Rattle.fdfa.specs.Words.{turns}
 use Rattle.fdfa.specs.Family.{Fdfa, walk}
-use Rattle.fdfa.specs.Normalization.{after, preperiod, period}
+use Rattle.fdfa.specs.Normalization.{after, preperiod, periodCount}
 
 -- The leading state q after u and i turns.
 abbrev pub loopState : Fdfa → List ℕ → List ℕ → ℕ
@@ -12,7 +12,7 @@ loopState F u v = after F u v (preperiod F u v)
 
 -- Where the progress automaton of q ends after j turns, from its start.
 abbrev pub endState : Fdfa → List ℕ → List ℕ → ℕ
-endState F u v = walk (F .progress (loopState F u v)) 0 (turns v (period F u v))
+endState F u v = walk (F .progress (loopState F u v)) 0 (turns v (periodCount F u v))
 
 -- The lasso is accepted when that state is accepting.
 abbrev pub accepts : Fdfa → List ℕ → List ℕ → Bool
@@ -29,7 +29,7 @@ abbrev pub verdict : Fdfa → List ℕ → List ℕ → Verdict
 verdict F u v = record {
   accepted = accepts F u v;
   i = preperiod F u v;
-  j = period F u v;
+  j = periodCount F u v;
   place = loopState F u v;
   end = endState F u v;
 }

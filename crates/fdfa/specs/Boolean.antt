@@ -30,7 +30,7 @@ product op F G = record {
       (G .accepting (x % G .states) (y % G .size (x % G .states)));
 }
 
--- Marked when both are marked, or either.
+-- Accepting (01: marked) when both are, or when either is.
 abbrev pub intersection : Fdfa → Fdfa → Fdfa
 intersection F G = product _&&_ F G
 

@@ -4,11 +4,11 @@ use mathlib.Core.Path.{_≡_}
 use mathlib.Core.Bool.{Bool, true, false, not, _&&_}
 use mathlib.Core.List.{List}
 use mathlib.Core.Logic.{_⊎_}
-use Prim.Native.Nat.{ℕ, zero, suc, _+_, _*_, max}
+use Prim.Native.Nat.{ℕ, zero, suc, _*_, _/_, _%_, max}
 use lib.Dec.{eqb}
 use Rattle.fdfa.specs.Words.{Over, Before}
 use Rattle.fdfa.specs.Family.{Fdfa, walk, Lasso}
-use Rattle.fdfa.specs.Normalization.{Normalized, preperiod, period}
+use Rattle.fdfa.specs.Normalization.{Normalized, preperiod, periodCount}
 use Rattle.fdfa.specs.Acceptance.{accepts}
 use Rattle.fdfa.specs.Boolean.{beside}
 use Rattle.fdfa.specs.Enumeration.{isFound, firstWord, Witness, absent, lasso, firstLasso}
@@ -32,7 +32,7 @@ pub data Answers (P : List ℕ → List ℕ → Type 0) : Witness → Type 0 whe
   first-is : {u v : List ℕ} → First P u v → Answers P (lasso u v)
 
 abbrev pub normalized : Fdfa → List ℕ → List ℕ → Bool
-normalized F u v = eqb (preperiod F u v) 0 && eqb (period F u v) 1
+normalized F u v = eqb (preperiod F u v) 0 && eqb (periodCount F u v) 1
 
 abbrev pub counters : Fdfa → Fdfa → List ℕ → List ℕ → Bool
 counters F G u v = normalized F u v && normalized G u v && accepts F u v && not (accepts G u v)
@@ -51,6 +51,12 @@ unfoldable pub countBelow : ℕ → (ℕ → Bool) → ℕ
 countBelow zero p = zero
 countBelow (suc m) p = elim (p m) [ true ↦ suc (countBelow m p) | false ↦ countBelow m p ]
 
+-- r of the numbers 0, .., m − 1 have the property.
+pub data Counts (P : ℕ → Type 0) : ℕ → ℕ → Type 0 where
+  of-none : Counts P 0 0
+  has-it : {m r : ℕ} → P m → Counts P m r → Counts P (suc m) (suc r)
+  lacks-it : {m r : ℕ} → (P m → ⊥) → Counts P m r → Counts P (suc m) r
+
 -- Some word leads the automaton f from its start to x.
 pub record Reached (s : ℕ) (f : ℕ → ℕ → ℕ) (x : ℕ) : Type 0 where
   pub by : List ℕ
@@ -65,15 +71,23 @@ reaches s n f x = isFound (firstWord s 0 n (λ w. eqb (walk f 0 w) x))
 abbrev pub reachedStates : ℕ → ℕ → (ℕ → ℕ → ℕ) → ℕ
 reachedStates s n f = countBelow n (reaches s n f)
 
--- The pairs of leading states: how many (N), how they move, and K of both families.
+-- The pairs of leading states: how many (N), and how they move.
 abbrev pub pairs : Fdfa → Fdfa → ℕ
 pairs F G = F .states * G .states
 
 abbrev pub pairStep : Fdfa → Fdfa → ℕ → ℕ → ℕ
 pairStep F G = beside (G .states) (F .step) (G .step)
 
+-- N × K: a pair of leading states, with a state of each of two progress automata.
 abbrev pub combinations : Fdfa → Fdfa → ℕ
 combinations F G = pairs F G * (widest F * widest G)
+
+-- The pair with the number x is one that some prefix, of whatever length, leads the two leading automata to.
+pub record ReachedPair (F G : Fdfa) (x : ℕ) : Type 0 where
+  pub by : List ℕ
+  pub over : Over (F .letters) by
+  pub first : walk (F .step) 0 by ≡ x / G .states
+  pub second : walk (G .step) 0 by ≡ x % G .states
 
 pub record Comparison : Type 0 where
   pub reached : ℕ

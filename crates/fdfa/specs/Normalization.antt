@@ -1,5 +1,5 @@
--- The normalization of a lasso (002, Definition 3.1; 01: the closing numbers). That i and j exist, add up to
--- at most n, and are `Smallest` is law `normal` of proofs/Normal. Assumes nothing.
+-- The normalization of a lasso (002, Definition 3.1; 01: the closing numbers). That i and j exist and are `Smallest` is law
+-- `normal` of proofs/Normal, and that they add up to at most n is `few-turns` there. Assumes nothing.
 use mathlib.Core.Path.{_≡_}
 use mathlib.Core.Bool.{Bool, true, false}
 use mathlib.Core.List.{List, _++_}
@@ -36,10 +36,10 @@ after F u v i = walk (F .step) 0 (u ++ turns v i)
 abbrev pub preperiod : Fdfa → List ℕ → List ℕ → ℕ
 preperiod F u v = returning (F .states) (after F u v)
 
-abbrev pub period : Fdfa → List ℕ → List ℕ → ℕ
-period F u v = returnFrom (F .states) (after F u v) (preperiod F u v)
+abbrev pub periodCount : Fdfa → List ℕ → List ℕ → ℕ
+periodCount F u v = returnFrom (F .states) (after F u v) (preperiod F u v)
 
 -- The lasso is normalized (01: the show closes).
 pub record Normalized (F : Fdfa) (u v : List ℕ) : Type 0 where
   pub no-preperiod : preperiod F u v ≡ 0
-  pub one-turn : period F u v ≡ 1
+  pub one-turn : periodCount F u v ≡ 1

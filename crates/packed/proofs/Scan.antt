@@ -10,17 +10,10 @@ use lib.ListN.{getD}
 use borrow.Author.Tests.{lt-ltb, le-ltb, lt-leb, ltb-false, leb-false}
 use Rattle.fdfa.proofs.Least.{least-before}
 use Rattle.fdfa.specs.declared.Part.{Part}
-use Rattle.fdfa.specs.Refusals.{Fault, sound, fault, _then_, when, given, refused, unless}
-use Rattle.fdfa.specs.declared.Refusal.{Refusal}
-use Rattle.packed.specs.declared.Sizes.{Sizes}
+use Rattle.fdfa.specs.Refusals.{Fault, sound, fault, _then_, when}
+use Rattle.fdfa.proofs.Refusals.{when-fails, when-passes, passed, failed}
 use Rattle.packed.specs.Layout.{letterCount, sizeOf, progressAt, marksAt}
 use Rattle.packed.specs.Faults.{outside, firstOutside, scan, progressFault}
-
-pub when-fails : {t : Bool} (number : ℕ) (part : Part) (place : ℕ) → t ≡ true → when t number part place ≡ fault (record { number = number; part = part; place = place })
-when-fails number part place e = ap (λ (t : Bool). when t number part place) e
-
-pub when-passes : {t : Bool} (number : ℕ) (part : Part) (place : ℕ) → t ≡ false → when t number part place ≡ sound
-when-passes number part place e = ap (λ (t : Bool). when t number part place) e
 
 or-left : (s t : Bool) → s || t ≡ false → s ≡ false
 or-left true t e = e
@@ -55,19 +48,6 @@ module _ (number : ℕ) (part : Part) (low limit : ℕ) (b : List ℕ) (at count
   pub scan-passes : count ≤ i → scan number part low limit b at count ≡ sound
   scan-passes h =
       ap (λ (x : ℕ). when (ltb x count) number part (at + x)) (sym stops) ∙ when-passes number part (at + i) (le-ltb i count h)
-
--- a test that fails is passed over, and one that holds is the refusal
-pub passed : {f : Fault} (g : Fault) → f ≡ sound → f then g ≡ g
-passed g e = ap (λ (x : Fault). x then g) e
-
-pub failed : {f h : Fault} (g : Fault) → f ≡ h → f then g ≡ h then g
-failed g e = ap (λ (x : Fault). x then g) e
-
-pub refuses : (z : Sizes) {f : Fault} {r : Refusal} → f ≡ fault r → refused r ≡ unless f z
-refuses z e = ap (λ (f : Fault). unless f z) (sym e)
-
-pub gives : (z : Sizes) {f : Fault} → f ≡ sound → given z ≡ unless f z
-gives z e = ap (λ (f : Fault). unless f z) (sym e)
 
 -- One state's tables: its next states, its marks, and the states after it.
 module _ (part : Part) (b : List ℕ) (q n i : ℕ) (more : q < n) (next : i ≡ firstOutside 0 (sizeOf b q) b (progressAt b q) (sizeOf b q * letterCount b)) where

@@ -12,40 +12,20 @@ use lib.Dec.{ltb, eqb}
 use lib.ListN.{length, getD}
 use borrow.Author.Tests.{le-ltb, ltb-false, eq-eqb, eqb-true, not-false}
 use Rattle.fdfa.specs.declared.Part.{Part}
-use Rattle.fdfa.specs.declared.Refusal.{Refusal}
 use Rattle.fdfa.specs.Family.{Closed, Complete}
-use Rattle.fdfa.specs.Refusals.{Fault, sound, fault, _then_, when, Result, given, refused, unless}
+use Rattle.fdfa.specs.Refusals.{Fault, sound, _then_, when, given}
 use Rattle.fdfa.proofs.Least.{least-none}
+use Rattle.fdfa.proofs.Refusals.{when-passes, passed, then-left, then-right, when-sound, gives, was-given}
 use Rattle.packed.specs.declared.Sizes.{Sizes}
 use Rattle.packed.specs.Layout.{letterCount, stateCount, sizeOf, leadingAt, progressAt, marksAt, sheetLength, tableStep, decode, Packable, Header, Valid}
 use Rattle.packed.specs.Faults.{outside, firstOutside, scan, progressFault, sheetFault, sizesOf, checked}
-use Rattle.packed.proofs.Scan.{inside, not-outside, all-inside, when-passes, scan-passes, passed}
-
-abbrev Faulty : Fault → Type 0
-Faulty sound = ⊥
-Faulty (fault r) = Unit {0}
-
-faulty : {r : Refusal} → fault r ≡ sound → ⊥
-faulty e = subst Faulty e tt
-
--- nothing is refused only where no test is met
-then-left : (f g : Fault) → f then g ≡ sound → f ≡ sound
-then-left sound g e = refl
-then-left (fault r) g e = e
-
-then-right : (f g : Fault) → f then g ≡ sound → g ≡ sound
-then-right sound g e = e
-then-right (fault r) g e = absurd (faulty e)
-
-when-sound : (t : Bool) (number : ℕ) (part : Part) (place : ℕ) → when t number part place ≡ sound → t ≡ false
-when-sound true number part place e = absurd (faulty e)
-when-sound false number part place e = refl
+use Rattle.packed.proofs.Scan.{inside, not-outside, all-inside, scan-passes}
 
 module _ (number : ℕ) (part : Part) (low limit : ℕ) (b : List ℕ) (at count : ℕ) where
-  scan-sound : scan number part low limit b at count ≡ sound → (k : ℕ) → k < count → (low ≤ getD b (at + k) 0) × (getD b (at + k) 0 < limit)
+  pub scan-sound : scan number part low limit b at count ≡ sound → (k : ℕ) → k < count → (low ≤ getD b (at + k) 0) × (getD b (at + k) 0 < limit)
   scan-sound e = all-inside low limit b at count (ltb-false _ count (when-sound _ number part _ e))
 
-  sound-scan : ((k : ℕ) → k < count → (low ≤ getD b (at + k) 0) × (getD b (at + k) 0 < limit)) → scan number part low limit b at count ≡ sound
+  pub sound-scan : ((k : ℕ) → k < count → (low ≤ getD b (at + k) 0) × (getD b (at + k) 0 < limit)) → scan number part low limit b at count ≡ sound
   unfolding firstOutside
   sound-scan h =
       scan-passes number part low limit b at count count (sym (least-none count (λ i. outside low limit (getD b (at + i) 0)) none)) (omega arith)
@@ -198,19 +178,11 @@ module _ (part : Part) (b : List ℕ) where
       good q l = record { next = entry (sizeOf b q) (progressAt b q) (v .progresses q l); marks = λ p i. v .marks q p l i }
 
   -- the check says valid exactly of valid sheets
-  pub checked-valid : {z : Sizes} → checked part b ≡ given z → Valid b
-  checked-valid {z} e = sound-valid (by (sheetFault part b) e)
-    where
-      is-refused : Result Sizes → Type 0
-      is-refused (given z) = ⊥
-      is-refused (refused r) = Unit {0}
+  pub checked-valid : {z : Sizes} → given z ≡ checked part b → Valid b
+  checked-valid e = sound-valid (was-given (sheetFault part b) (sizesOf b) e .0)
 
-      by : (f : Fault) → unless f (sizesOf b) ≡ given z → f ≡ sound
-      by sound d = refl
-      by (fault r) d = absurd (subst is-refused d tt)
-
-  pub valid-checked : Valid b → checked part b ≡ given (sizesOf b)
-  valid-checked v = ap (λ (f : Fault). unless f (sizesOf b)) (valid-sound v)
+  pub valid-checked : Valid b → given (sizesOf b) ≡ checked part b
+  valid-checked v = gives (sizesOf b) (valid-sound v)
 
 -- the family of a valid sheet is complete, with every count from 1 to 32
 pub valid-packable : (b : List ℕ) → Valid b → Packable (decode b)

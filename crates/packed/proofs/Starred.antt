@@ -3,7 +3,7 @@ use mathlib.Core.Path.{_≡_, refl}
 use mathlib.Core.Bool.{Bool, true, false}
 use mathlib.Core.List.{List, [], _∷_}
 use Prim.Native.Nat.{ℕ}
-use Rattle.fdfa.specs.Normalization.{least, returnFrom, returning, preperiod, period}
+use Rattle.fdfa.specs.Normalization.{least, returnFrom, returning, preperiod, periodCount}
 use Rattle.fdfa.specs.Acceptance.{accepts, loopState}
 use Rattle.fdfa.specs.Boolean.{complement, intersection}
 use Rattle.fdfa.specs.Enumeration.{firstLetter, firstOfLength, firstWord, Witness, absent, lasso}
@@ -41,9 +41,9 @@ pub data Row : Type 0 where
 
 abbrev pub Holds : Row → Type 0
 Holds (judged sheet u v ok) = accepts (decode sheet) u v ≡ ok
-Holds (closing sheet u v i j ok) = (preperiod (decode sheet) u v ≡ i) × (period (decode sheet) u v ≡ j) × (accepts (decode sheet) u v ≡ ok)
+Holds (closing sheet u v i j ok) = (preperiod (decode sheet) u v ≡ i) × (periodCount (decode sheet) u v ≡ j) × (accepts (decode sheet) u v ≡ ok)
 Holds (placed sheet u v i j q ok) =
-    (preperiod (decode sheet) u v ≡ i) × (period (decode sheet) u v ≡ j) × (loopState (decode sheet) u v ≡ q) × (accepts (decode sheet) u v ≡ ok)
+    (preperiod (decode sheet) u v ≡ i) × (periodCount (decode sheet) u v ≡ j) × (loopState (decode sheet) u v ≡ q) × (accepts (decode sheet) u v ≡ ok)
 Holds (intersected x y u v ok first) = (accepts (intersection (decode x) (decode y)) u v ≡ ok) × (accepts (decode x) u v ≡ first)
 Holds (complemented sheet r) = pack (complement (decode sheet)) ≡ r
 Holds (compared x y r w) = (comparison (decode x) (decode y) .reached ≡ r) × (comparison (decode x) (decode y) .witness ≡ w)

@@ -1,4 +1,4 @@
--- Which refusal a packed sheet gets (01: "When the desk says no", 1 to 6), for any bytes. Assumes nothing.
+-- Which refusal a packed sheet gets, 1 to 6 of 01, for any bytes. Assumes nothing.
 use mathlib.Core.Bool.{Bool, not, _||_}
 use mathlib.Core.List.{List}
 use Prim.Native.Nat.{ℕ, zero, suc, _+_, _*_}

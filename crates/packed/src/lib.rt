@@ -5,11 +5,10 @@ ghost use mathlib.Core.Path.{_≡_};
 ghost use Prim.Native.Nat.{_+_, _*_, _≤_, _<_};
 ghost use lib.Dec.{eqb};
 ghost use lib.ListN.{length, getD};
-ghost use Rattle.fdfa.specs.Words.{Over};
 ghost use Rattle.fdfa.specs.Family.{walk};
 ghost use Rattle.fdfa.specs.Inclusion.{largest};
 ghost use Rattle.fdfa.specs.Refusals.{unless};
-ghost use Rattle.packed.specs.Layout.{letterCount, stateCount, sizeOf, progressAt, sheetLength, tableStep, Header};
+ghost use Rattle.packed.specs.Layout.{letterCount, stateCount, sizeOf, progressAt, sheetLength, tableStep, Header, Walkable};
 ghost use Rattle.packed.specs.Faults.{outside, firstOutside, progressFault, sizesOf, checked, saysOf};
 
 // The counts of a sheet: s, n and the largest k(q).
@@ -38,7 +37,7 @@ fn is_outside(low: usize, limit: usize, c: usize) -> bool
 }
 
 // How many of `count` bytes from `at` on come before the first that is not from `low` to `limit` − 1.
-fn first_outside(sheet: &[u8], low: usize, limit: usize, at: usize, count: usize) -> usize
+pub fn first_outside(sheet: &[u8], low: usize, limit: usize, at: usize, count: usize) -> usize
     requires { ⌜ at + count ≤ length (now sheet) ⌝ }
     ensures { λ r. ⌜ r ≡ firstOutside low limit (now (sheet .entry)) at count ⌝ }
 {
@@ -99,6 +98,20 @@ pub fn next(sheet: &[u8], at: usize, letters: usize, state: usize, letter: usize
     ensures { λ r. ⌜ r ≡ tableStep (now (sheet .entry)) at letters state letter ⌝ }
 {
     wide(sheet[at + (state * letters + letter)])
+}
+
+// Where the automaton whose table begins at `at` stands after the word, from `state`.
+pub fn walk(sheet: &[u8], at: usize, letters: usize, state: usize, word: &[u8]) -> usize
+    requires { ⌜ Walkable (now sheet) at letters state (now word) ⌝ }
+    ensures { λ r. ⌜ r ≡ walk (tableStep (now (sheet .entry)) at letters) state (now (word .entry)) ⌝ }
+{
+    let mut q = state;
+    let mut i = 0;
+    while i < word.len() {
+        q = next(sheet, at, letters, q, wide(word[i]));
+        i += 1;
+    }
+    q
 }
 
 // Whether a state is marked, by marks that begin at `at`.

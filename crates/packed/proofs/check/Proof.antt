@@ -13,7 +13,8 @@ use Rattle.fdfa.specs.Refusals.{Fault, _then_, when, refused, unless}
 use Rattle.packed.specs.Layout.{letterCount, stateCount, sizeOf, leadingAt, progressAt, sheetLength, Header}
 use Rattle.packed.specs.Faults.{outside, firstOutside, scan, progressFault, sheetFault, sizesOf, saysOf}
 use Rattle.packed.proofs.Bounds.{few-both, progress-first, progress-upto, sheet-few}
-use Rattle.packed.proofs.Scan.{inside, all-inside, when-fails, when-passes, scan-fails, scan-passes, passed, failed, refuses}
+use Rattle.fdfa.proofs.Refusals.{when-fails, when-passes, passed, failed, refuses}
+use Rattle.packed.proofs.Scan.{inside, all-inside, scan-fails, scan-passes}
 use borrow.Author.Needs.{needs}
 use borrow.Author.Needs.{needs}
 use Rattle.packed.proofs.check.Statement.{statement}

@@ -11,7 +11,8 @@ use Rattle.fdfa.specs.Inclusion.{largest}
 use Rattle.packed.specs.Layout.{letterCount, stateCount, sizeOf, progressAt, marksAt, Header}
 use Rattle.packed.specs.Faults.{firstOutside, progressFault, sizesOf, saysOf}
 use Rattle.packed.proofs.Bounds.{few-both, progress-first, Body, body}
-use Rattle.packed.proofs.Scan.{refuses, gives, fails-next, fails-marks, passes-state}
+use Rattle.fdfa.proofs.Refusals.{refuses, gives}
+use Rattle.packed.proofs.Scan.{fails-next, fails-marks, passes-state}
 use borrow.Author.Needs.{needs}
 use Rattle.packed.proofs.check_progress.Statement.{statement}
 use Rattle.packed.proofs.check_progress.Tie as tie

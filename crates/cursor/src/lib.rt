@@ -1,0 +1,122 @@
+// A cursor over the infinite word of a lasso: letter by letter through the prefix once, then through the period for ever.
+use fdfa::Part;
+use fdfa::Refusal;
+ghost use mathlib.Core.Path.{_≡_};
+ghost use denote.Ref.{ptr};
+ghost use Rattle.cursor.specs.Walking.{startOf, stepFault, stepped, passedIn, saysOf, restOf, restLies};
+
+// The part of the lasso that the cursor stands in.
+pub enum Playing {
+    Prefix,
+    Period,
+}
+
+pub struct Cursor {
+    pub part: Playing,
+    pub at: usize,
+}
+
+// What a step says: the letter that it passed and the cursor moved, or the refusal and the cursor as it was.
+pub enum Step {
+    Passed(u8, Cursor),
+    Refused(Refusal, Cursor),
+}
+
+// The cursor before the first letter. It takes the prefix alone and is never refused.
+pub fn start(prefix: &[u8]) -> Cursor
+    ensures { λ r. ⌜ r ≡ startOf (now (prefix .entry)) ⌝ }
+{
+    if prefix.len() == 0 {
+        Cursor {
+            part: Playing::Period,
+            at: 0,
+        }
+    } else {
+        Cursor {
+            part: Playing::Prefix,
+            at: 0,
+        }
+    }
+}
+
+// The letter at the cursor in its word, and the cursor behind it.
+fn pass(c: Cursor, word: &[u8]) -> Step
+    ensures { λ r. ⌜ saysOf r ≡ passedIn c (now (word .entry)) ⌝ }
+{
+    let at = c.at;
+    if word.len() <= at {
+        return Step::Refused(
+            Refusal {
+                number: 24,
+                part: Part::Cursor,
+                place: at,
+            },
+            c,
+        );
+    }
+    let letter = word[at];
+    if at + 1 < word.len() {
+        let part = c.part;
+        Step::Passed(letter, Cursor { part, at: at + 1 })
+    } else {
+        Step::Passed(
+            letter,
+            Cursor {
+                part: Playing::Period,
+                at: 0,
+            },
+        )
+    }
+}
+
+impl Cursor {
+    // One letter further.
+    pub fn step(self, prefix: &[u8], period: &[u8]) -> Step
+        ensures { λ r. ⌜ saysOf r ≡ stepped self (now (prefix .entry)) (now (period .entry)) ⌝ }
+    {
+        if period.len() == 0 {
+            return Step::Refused(
+                Refusal {
+                    number: 8,
+                    part: Part::Loop,
+                    place: 0,
+                },
+                self,
+            );
+        }
+        let part = self.part;
+        match part {
+            Playing::Prefix => pass(self, prefix),
+            Playing::Period => pass(self, period),
+        }
+    }
+}
+
+// The rest of the part that the cursor stands in, as a part of the caller's own slice. It is never refused: where a step
+// would be, it is the empty part at the prefix's start.
+pub fn rest<'a>(c: Cursor, prefix: &'a [u8], period: &'a [u8]) -> &'a [u8]
+    ensures holds { λ r. ⌜ now r ≡ restOf (stepFault c (now (prefix .entry)) (now (period .entry))) c (now (prefix .entry)) (now (period .entry)) ⌝ }
+    ensures lies { λ r. ⌜ ptr r ≡ restLies (stepFault c (now (prefix .entry)) (now (period .entry))) c (ptr (prefix .entry)) (ptr (period .entry)) ⌝ }
+{
+    if period.len() == 0 {
+        return &prefix[..0];
+    }
+    let part = c.part;
+    let at = c.at;
+    match part {
+        Playing::Prefix => {
+            if at < prefix.len() {
+                &prefix[at..]
+            } else {
+                &prefix[..0]
+            }
+        }
+        Playing::Period => {
+            if at < period.len() {
+                &period[at..]
+            } else {
+                &prefix[..0]
+            }
+        }
+    }
+}

@@ -1,0 +1,161 @@
+// Membership of a lasso: whether a family of DFAs accepts the pair of a prefix and a period, with its normalization.
+use fdfa::Part;
+use fdfa::Refusal;
+use packed::Sizes;
+use packed::Validity;
+ghost use mathlib.Core.Path.{_≡_};
+ghost use Prim.Native.Nat.{_<_};
+ghost use Rattle.fdfa.specs.Words.{Over};
+ghost use Rattle.fdfa.specs.Refusals.{unless};
+ghost use Rattle.packed.specs.Layout.{letterCount, stateCount, leadingAt, Valid};
+ghost use Rattle.packed.specs.Faults.{sizesOf};
+ghost use Rattle.fdfa.specs.declared.Refusal.{Refusal};
+ghost use Rattle.membership.specs.Verdict.{lassoFault, judged, saysOf, checkSays, Closing, Ends};
+
+// The verdict: whether the lasso is accepted, i and j, the leading state q after u and i turns, and the state of q's
+// progress automaton after j turns.
+pub enum Judgement {
+    Given {
+        accepted: bool,
+        i: usize,
+        j: usize,
+        place: usize,
+        end: usize,
+    },
+    Refused(Refusal),
+}
+
+// What the check of a sheet and a lasso says.
+pub enum Checked {
+    Lasso(Sizes),
+    Refused(Refusal),
+}
+
+// The normalization of a lasso: i, j and q.
+struct Normalized {
+    i: usize,
+    j: usize,
+    place: usize,
+}
+
+// Where the progress automaton ends, and whether it accepts there.
+struct Ended {
+    end: usize,
+    accepted: bool,
+}
+
+fn refuse(number: u8, part: Part, place: usize) -> Checked
+    ensures { λ r. ⌜ r ≡ Checked.Refused (record { number = number; part = part; place = place }) ⌝ }
+{
+    Checked::Refused(Refusal {
+        number,
+        part,
+        place,
+    })
+}
+
+// Whether sheet and lasso are good: first the sheet, then the prefix, then the period.
+pub fn check(sheet: &[u8], prefix: &[u8], period: &[u8]) -> Checked
+    ensures { λ r. ⌜ checkSays r ≡ unless (lassoFault (now (sheet .entry)) (now (prefix .entry)) (now (period .entry))) (sizesOf (now (sheet .entry))) ⌝ }
+{
+    let validity = packed::check(sheet, Part::First);
+    match validity {
+        Validity::Refused(r) => Checked::Refused(r),
+        Validity::Valid(sizes) => {
+            let s = sizes.letters;
+            let i = packed::first_outside(prefix, 0, s, 0, prefix.len());
+            if i < prefix.len() {
+                return refuse(9, Part::Opening, i);
+            }
+            if period.len() == 0 {
+                return refuse(8, Part::Loop, 0);
+            }
+            let j = packed::first_outside(period, 0, s, 0, period.len());
+            if j < period.len() {
+                return refuse(9, Part::Loop, j);
+            }
+            Checked::Lasso(sizes)
+        }
+    }
+}
+
+// Turns the period from a leading state until a state comes again. `seen` has, for each state, one more than the turns
+// after which it was first there.
+fn normalize(sheet: &[u8], at: usize, letters: usize, start: usize, period: &[u8]) -> Normalized
+    requires { ⌜ Valid (now sheet) × Over (letterCount (now sheet)) (now period) × (start < stateCount (now sheet)) ⌝ }
+    requires { ⌜ (at ≡ leadingAt (now sheet)) × (letters ≡ letterCount (now sheet)) ⌝ }
+    ensures { λ r. ⌜ Closing (now (sheet .entry)) (now (period .entry)) start (r .i) (r .j) (r .place) ⌝ }
+{
+    let mut seen = [0usize; 32];
+    let mut q = start;
+    let mut t = 0;
+    while seen[q] == 0 {
+        seen[q] = t + 1;
+        q = packed::walk(sheet, at, letters, q, period);
+        t += 1;
+    }
+    let i = seen[q] - 1;
+    Normalized {
+        i,
+        j: t - i,
+        place: q,
+    }
+}
+
+// Runs the progress automaton of q over `count` turns of the period, from its start.
+fn progress(sheet: &[u8], letters: usize, q: usize, period: &[u8], count: usize) -> Ended
+    requires { ⌜ Valid (now sheet) × Over (letterCount (now sheet)) (now period) × (q < stateCount (now sheet)) ⌝ }
+    requires { ⌜ letters ≡ letterCount (now sheet) ⌝ }
+    ensures { λ r. ⌜ Ends (now (sheet .entry)) (now (period .entry)) q count (r .end) (r .accepted) ⌝ }
+{
+    let at = packed::progress_at(sheet, q);
+    let mut end = 0;
+    let mut t = 0;
+    while t < count {
+        end = packed::walk(sheet, at, letters, end, period);
+        t += 1;
+    }
+    let marks = at + packed::size(sheet, q) * letters;
+    Ended {
+        end,
+        accepted: packed::is_marked(sheet, marks, end),
+    }
+}
+
+// A check that refused, as the answer.
+fn refused(c: Checked) -> Judgement
+    ensures { λ r. ⌜ ((x : Refusal) → c ≡ Checked.Refused x → r ≡ Judgement.Refused x) ⌝ }
+{
+    match c {
+        Checked::Refused(r) => Judgement::Refused(r),
+        Checked::Lasso(_) => Judgement::Given {
+            accepted: false,
+            i: 0,
+            j: 0,
+            place: 0,
+            end: 0,
+        },
+    }
+}
+
+// The verdict of the sheet's family on the lasso (01: the show), or the refusal.
+pub fn verdict(sheet: &[u8], prefix: &[u8], period: &[u8]) -> Judgement
+    ensures { λ r. ⌜ saysOf r ≡ judged (now (sheet .entry)) (now (prefix .entry)) (now (period .entry)) ⌝ }
+{
+    let checked = check(sheet, prefix, period);
+    let Checked::Lasso(sizes) = checked else {
+        return refused(checked);
+    };
+    let s = sizes.letters;
+    let at = 2 + sizes.states;
+    let start = packed::walk(sheet, at, s, 0, prefix);
+    let n = normalize(sheet, at, s, start, period);
+    let ended = progress(sheet, s, n.place, period, n.j);
+    Judgement::Given {
+        accepted: ended.accepted,
+        i: n.i,
+        j: n.j,
+        place: n.place,
+        end: ended.end,
+    }
+}
