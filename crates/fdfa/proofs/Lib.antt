@@ -1,4 +1,5 @@
 pub mod Refusals
+pub mod Slices
 pub mod Words
 pub mod Order
 pub mod Least

@@ -5,3 +5,4 @@ pub mod Reading
 pub mod Tabulated
 pub mod Packing
 pub mod Starred
+pub mod Filling

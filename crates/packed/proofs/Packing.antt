@@ -8,11 +8,14 @@ use native.Mathlib.Omega.{arith}
 use native.Mathlib.Nat.{mul-add, mul-one, add-assoc}
 use lib.Arith.{digits-lt}
 use lib.Dec.{eqb}
-use lib.ListN.{length, getD, length-append}
+use lib.ListN.{length, getD, take, drop, length-append, length-drop}
+use lib.Seq.{take-at, getD-take, getD-drop, length-take-le, ext-getD}
 use borrow.Author.Tests.{eq-eqb, ne-eqb}
 use Rattle.fdfa.specs.Family.{Fdfa, Closed, Complete, Agrees}
 use Rattle.packed.specs.Tables.{tab, rows, sum}
-use Rattle.packed.specs.Layout.{letterCount, stateCount, sizeOf, leadingAt, progressAt, marksAt, sheetLength, tableStep, decode, mark, table, pack, Packable, Header, Valid}
+use Rattle.packed.specs.Layout.{letterCount, stateCount, sizeOf, leadingAt, progressAt, marksAt, sheetLength, tableStep, decode, mark, table, frontBytes, partBytes, pack, Packable, Header, Valid}
+use Rattle.packed.proofs.Bounds.{progress-first}
+use Rattle.packed.proofs.Reading.{part-of}
 use Rattle.packed.proofs.Soundness.{valid-packable}
 use Rattle.packed.proofs.Tabulated.{length-tab, getD-first, getD-second, getD-tab, tab-getD, tab-same, rows-same, tab-append, rows-tab, sum-same, table-tab, length-rows, sum-rises, getD-rows, length-table, getD-table}
 
@@ -74,87 +77,82 @@ module _ (b : List ℕ) (v : Valid b) where
       (rows-same n _ (λ q. tab (len q) (λ i. byte (base + (sum q len + i)))) whole-part ∙ rows-tab n len (λ i. byte (base + i)))
       ∙ (tab-append base (sum n len) byte ∙ (ap (λ (m : ℕ). tab m byte) (sym (v .exact)) ∙ tab-getD b))
 
+-- bytes of a list from a place on, as a table
+slice-tab : (b : List ℕ) (a m : ℕ) → a + m ≤ length b → take m (drop a b) ≡ tab m (λ i. getD b (a + i) 0)
+slice-tab b a m h =
+    ext-getD 0 (take m (drop a b)) (tab m (λ i. getD b (a + i) 0)) (long ∙ sym (length-tab m (λ i. getD b (a + i) 0))) (λ i l. by i (omega (arith, long)))
+  where
+    long : length (take m (drop a b)) ≡ m
+    long = length-take-le m (drop a b) (omega (arith, length-drop a b))
+
+    by : (i : ℕ) → i < m → getD (take m (drop a b)) i 0 ≡ getD (tab m (λ i. getD b (a + i) 0)) i 0
+    by i l = getD-take m (drop a b) i 0 l ∙ (getD-drop a b i 0 ∙ sym (getD-tab m (λ i. getD b (a + i) 0) i l))
+
+pub length-part : (F : Fdfa) (q : ℕ) → length (partBytes F q) ≡ F .size q * (F .letters + 1)
+length-part F q =
+    length-append (table (F .size q) (F .letters) (F .progress q)) (tab (F .size q) (λ p. mark (F .accepting q p)))
+    ∙ (ap₂ (λ (x y : ℕ). x + y) (length-table (F .size q) (F .letters) (F .progress q)) (length-tab (F .size q) _) ∙ part-length (F .size q) (F .letters))
+
+length-counts : (F : Fdfa) → length ((F .letters ∷ F .states ∷ []) ++ tab (F .states) (F .size)) ≡ 2 + F .states
+length-counts F =
+    length-append (F .letters ∷ F .states ∷ []) (tab (F .states) (F .size)) ∙ ap (λ (x : ℕ). 2 + x) (length-tab (F .states) (F .size))
+
+pub length-front : (F : Fdfa) → length (frontBytes F) ≡ 2 + F .states + F .states * F .letters
+length-front F =
+    length-append ((F .letters ∷ F .states ∷ []) ++ tab (F .states) (F .size)) (table (F .states) (F .letters) (F .step))
+    ∙ ap₂ (λ (x y : ℕ). x + y) (length-counts F) (length-table (F .states) (F .letters) (F .step))
+
 module _ (F : Fdfa) (P : Packable F) where
   bytes : List ℕ
   bytes = pack F
 
-  head : List ℕ
-  head = F .letters ∷ F .states ∷ []
-
-  sizes : List ℕ
-  sizes = tab (F .states) (F .size)
-
-  leads : List ℕ
-  leads = table (F .states) (F .letters) (F .step)
-
-  part : ℕ → List ℕ
-  part q = table (F .size q) (F .letters) (F .progress q) ++ tab (F .size q) (λ p. mark (F .accepting q p))
-
-  parts : List ℕ
-  parts = rows (F .states) part
-
-  length-part : (q : ℕ) → length (part q) ≡ F .size q * (F .letters + 1)
-  unfolding part
-  length-part q =
-      length-append (table (F .size q) (F .letters) (F .progress q)) (tab (F .size q) (λ p. mark (F .accepting q p)))
-      ∙ (ap₂ (λ (x y : ℕ). x + y) (length-table (F .size q) (F .letters) (F .progress q)) (length-tab (F .size q) _) ∙ part-length (F .size q) (F .letters))
-
-  length-front : length (head ++ sizes) ≡ 2 + F .states
-  unfolding head sizes
-  length-front = length-append head sizes ∙ ap (λ (x : ℕ). 2 + x) (length-tab (F .states) (F .size))
-
-  length-tables : length (head ++ sizes ++ leads) ≡ 2 + F .states + F .states * F .letters
-  unfolding leads
-  length-tables =
-      length-append (head ++ sizes) leads ∙ ap₂ (λ (x y : ℕ). x + y) length-front (length-table (F .states) (F .letters) (F .step))
-
   -- the sizes, where they are read
   size-at : (q : ℕ) → q < F .states → sizeOf bytes q ≡ F .size q
-  unfolding bytes head sizes leads parts part
+  unfolding bytes
   size-at q h =
-      getD-first (head ++ sizes ++ leads) parts (2 + q) (omega (arith, length-tables))
-      ∙ (getD-first (head ++ sizes) leads (2 + q) (omega (arith, length-front))
-      ∙ (getD-second head sizes 2 q refl ∙ getD-tab (F .states) (F .size) q h))
+      getD-first (frontBytes F) (rows (F .states) (partBytes F)) (2 + q) (omega (arith, length-front F))
+      ∙ (getD-first ((F .letters ∷ F .states ∷ []) ++ tab (F .states) (F .size)) (table (F .states) (F .letters) (F .step)) (2 + q) (omega (arith, length-counts F))
+      ∙ (getD-second (F .letters ∷ F .states ∷ []) (tab (F .states) (F .size)) 2 q refl ∙ getD-tab (F .states) (F .size) q h))
 
   -- the leading table
   lead-at : (q a : ℕ) → q < F .states → a < F .letters → decode bytes .step q a ≡ F .step q a
-  unfolding bytes head sizes leads parts part
+  unfolding bytes
   lead-at q a h l =
-      getD-first (head ++ sizes ++ leads) parts (2 + F .states + (q * F .letters + a)) (omega (arith, length-tables, digits-lt h l))
-      ∙ (getD-second (head ++ sizes) leads (2 + F .states) (q * F .letters + a) length-front ∙ getD-table (F .states) (F .letters) (F .step) q a h l)
+      getD-first (frontBytes F) (rows (F .states) (partBytes F)) (2 + F .states + (q * F .letters + a)) (omega (arith, length-front F, digits-lt h l))
+      ∙ (getD-second ((F .letters ∷ F .states ∷ []) ++ tab (F .states) (F .size)) (table (F .states) (F .letters) (F .step)) (2 + F .states) (q * F .letters + a) (length-counts F) ∙ getD-table (F .states) (F .letters) (F .step) q a h l)
 
   -- where the part of q begins, as it was written and as it is read
-  part-at : (q : ℕ) → q ≤ F .states → progressAt bytes q ≡ 2 + F .states + F .states * F .letters + sum q (λ r. length (part r))
+  part-at : (q : ℕ) → q ≤ F .states → progressAt bytes q ≡ 2 + F .states + F .states * F .letters + sum q (λ r. length (partBytes F r))
   unfolding progressAt bytes
   part-at q h =
       ap (λ (x : ℕ). 2 + F .states + F .states * F .letters + x)
-      (sum-same q (λ r. sizeOf bytes r * (F .letters + 1)) (λ r. length (part r))
-      (λ r l. ap (λ (k : ℕ). k * (F .letters + 1)) (size-at r (omega arith)) ∙ sym (length-part r)))
+      (sum-same q (λ r. sizeOf bytes r * (F .letters + 1)) (λ r. length (partBytes F r))
+      (λ r l. ap (λ (k : ℕ). k * (F .letters + 1)) (size-at r (omega arith)) ∙ sym (length-part F r)))
 
-  byte-at : (q i : ℕ) → q < F .states → i < length (part q) → getD bytes (progressAt bytes q + i) 0 ≡ getD (part q) i 0
-  unfolding bytes head sizes leads parts part
+  byte-at : (q i : ℕ) → q < F .states → i < length (partBytes F q) → getD bytes (progressAt bytes q + i) 0 ≡ getD (partBytes F q) i 0
+  unfolding bytes
   byte-at q i h l =
       ap (λ (x : ℕ). getD bytes (x + i) 0) (part-at q (omega arith))
-      ∙ (ap (λ (x : ℕ). getD bytes x 0) (add-assoc (2 + F .states + F .states * F .letters) (sum q (λ r. length (part r))) i)
-      ∙ (getD-second (head ++ sizes ++ leads) parts (2 + F .states + F .states * F .letters) (sum q (λ r. length (part r)) + i) length-tables
-      ∙ getD-rows (F .states) part q i h l))
+      ∙ (ap (λ (x : ℕ). getD bytes x 0) (add-assoc (2 + F .states + F .states * F .letters) (sum q (λ r. length (partBytes F r))) i)
+      ∙ (getD-second (frontBytes F) (rows (F .states) (partBytes F)) (2 + F .states + F .states * F .letters) (sum q (λ r. length (partBytes F r)) + i) (length-front F)
+      ∙ getD-rows (F .states) (partBytes F) q i h l))
 
-  next-within : (q i : ℕ) → i < F .size q * F .letters → i < length (part q)
-  next-within q i h = omega (arith, length-part q, part-length (F .size q) (F .letters))
+  next-within : (q i : ℕ) → i < F .size q * F .letters → i < length (partBytes F q)
+  next-within q i h = omega (arith, length-part F q, part-length (F .size q) (F .letters))
 
   progress-at : (q p a : ℕ) → q < F .states → p < F .size q → a < F .letters → decode bytes .progress q p a ≡ F .progress q p a
-  unfolding bytes part
+  unfolding bytes
   progress-at q p a h i l =
       byte-at q (p * F .letters + a) h (next-within q (p * F .letters + a) (digits-lt i l))
       ∙ (getD-first (table (F .size q) (F .letters) (F .progress q)) _ (p * F .letters + a) (rw (length-table (F .size q) (F .letters) (F .progress q)) (digits-lt i l))
       ∙ getD-table (F .size q) (F .letters) (F .progress q) p a i l)
 
   mark-at : (q p : ℕ) → q < F .states → p < F .size q → getD bytes (marksAt bytes q + p) 0 ≡ mark (F .accepting q p)
-  unfolding bytes part
+  unfolding bytes
   mark-at q p h i =
       ap (λ (k : ℕ). getD bytes (progressAt bytes q + k * F .letters + p) 0) (size-at q h)
       ∙ (ap (λ (x : ℕ). getD bytes x 0) (add-assoc (progressAt bytes q) (F .size q * F .letters) p)
-      ∙ (byte-at q (F .size q * F .letters + p) h (omega (arith, length-part q, part-length (F .size q) (F .letters)))
+      ∙ (byte-at q (F .size q * F .letters + p) h (omega (arith, length-part F q, part-length (F .size q) (F .letters)))
       ∙ (getD-second (table (F .size q) (F .letters) (F .progress q)) _ (F .size q * F .letters) p (length-table (F .size q) (F .letters) (F .progress q))
       ∙ getD-tab (F .size q) (λ r. mark (F .accepting q r)) p i)))
 
@@ -171,10 +169,10 @@ module _ (F : Fdfa) (P : Packable F) where
   }
 
   pub pack-valid : Valid (pack F)
-  unfolding bytes head sizes leads parts part
+  unfolding bytes
   pack-valid = record {
     header = record {
-      long = omega (arith, exact-length, length-append (head ++ sizes ++ leads) parts, length-tables);
+      long = omega (arith, exact-length, length-append (frontBytes F) (rows (F .states) (partBytes F)), (length-front F));
       some-letters = P .some-letters;
       few-letters = P .few-letters;
       some-states = P .complete .start;
@@ -190,8 +188,8 @@ module _ (F : Fdfa) (P : Packable F) where
     where
       exact-length : length bytes ≡ sheetLength bytes
       exact-length =
-          length-append (head ++ sizes ++ leads) parts
-          ∙ (ap₂ (λ (x y : ℕ). x + y) length-tables (length-rows (F .states) part) ∙ sym (part-at (F .states) (omega arith)))
+          length-append (frontBytes F) (rows (F .states) (partBytes F))
+          ∙ (ap₂ (λ (x y : ℕ). x + y) (length-front F) (length-rows (F .states) (partBytes F)) ∙ sym (part-at (F .states) (omega arith)))
 
       by : (q : ℕ) → q < F .states → (p a : ℕ) → p < F .size q → a < F .letters → decode bytes .progress q p a < sizeOf bytes q
       by q h p a i l = rw (progress-at q p a h i l, size-at q h) (P .complete .progresses q h p a i l)
@@ -202,3 +200,17 @@ is-packed b v = (decode b, valid-packable b v, pack-decode b v)
 
 pub packed-is : (b : List ℕ) (F : Fdfa) → Packable F → pack F ≡ b → Valid b
 packed-is b F P e = subst Valid e (pack-valid F P)
+
+-- what stands in a valid sheet before the parts, and in the part of q
+module _ (b : List ℕ) (v : Valid b) where
+  pub front-of : take (progressAt b 0) b ≡ frontBytes (decode b)
+  front-of =
+      ap (take (progressAt b 0)) (sym (pack-decode b v))
+      ∙ take-at (frontBytes (decode b)) (rows (stateCount b) (partBytes (decode b))) (progressAt b 0) (length-front (decode b) ∙ sym (progress-first b))
+
+  pub part-of-bytes : (q : ℕ) → q < stateCount b → take (sizeOf b q * letterCount b + sizeOf b q) (drop (progressAt b q) b) ≡ partBytes (decode b) q
+  unfolding n s byte len base progressAt
+  part-of-bytes q h =
+      ap (λ (m : ℕ). take m (drop (progressAt b q) b)) (part-length (sizeOf b q) (letterCount b))
+      ∙ (slice-tab b (progressAt b q) (sizeOf b q * (letterCount b + 1)) (omega (arith, part-of b v q h .within, part-length (sizeOf b q) (letterCount b)))
+      ∙ (tab-same (len b v q) _ _ (λ i l. ap (byte b v) (add-assoc (base b v) (sum q (len b v)) i)) ∙ sym (whole-part b v q h)))

@@ -5,6 +5,7 @@ use Prim.Native.Nat.{ℕ, zero, suc, _+_, _*_}
 use lib.Dec.{eqb, ltb, leb}
 use lib.ListN.{length, getD}
 use Rattle.fdfa.specs.declared.Part.{Part}
+use Rattle.fdfa.specs.declared.Part.the-variants.{First, Second}
 use Rattle.fdfa.specs.Normalization.{least}
 use Rattle.fdfa.specs.Inclusion.{widest}
 use Rattle.fdfa.specs.Refusals.{Fault, sound, _then_, when, Result, given, refused, unless}
@@ -12,6 +13,8 @@ use Rattle.packed.specs.Layout.{letterCount, stateCount, sizeOf, leading
 use Rattle.packed.specs.declared.Sizes.{Sizes}
 use Rattle.packed.specs.declared.Validity.{Validity}
 use Rattle.packed.specs.declared.Validity.the-variants.{Valid, Refused}
+use Rattle.packed.specs.declared.Validities.{Validities}
+use Rattle.packed.specs.declared.Validities.the-variants as pair
 
 -- c is not from `low` to `limit` − 1.
 abbrev pub outside : ℕ → ℕ → ℕ → Bool
@@ -57,3 +60,21 @@ checked part b = unless (sheetFault part b) (sizesOf b)
 abbrev pub saysOf : Validity → Result Sizes
 saysOf (Valid z) = given z
 saysOf (Refused r) = refused r
+
+-- Two sheets: the first, the second, then 7 where their letter counts differ.
+abbrev pub secondFault : ℕ → List ℕ → Fault
+secondFault letters c = sheetFault Second c then when (not (eqb letters (letterCount c))) 7 Second 0
+
+abbrev pub pairFault : List ℕ → List ℕ → Fault
+pairFault b c = sheetFault First b then secondFault (letterCount b) c
+
+pub record BothSizes : Type 0 where
+  pub first : Sizes
+  pub second : Sizes
+
+abbrev pub checkedPair : List ℕ → List ℕ → Result BothSizes
+checkedPair b c = unless (pairFault b c) (record { first = sizesOf b; second = sizesOf c })
+
+abbrev pub pairSays : Validities → Result BothSizes
+pairSays (pair.Valid z y) = given (record { first = z; second = y })
+pairSays (pair.Refused r) = refused r

@@ -55,12 +55,17 @@ mark false = 0
 abbrev pub table : ℕ → ℕ → (ℕ → ℕ → ℕ) → List ℕ
 table k s f = rows k (λ q. tab s (f q))
 
+-- The counts and the leading table, and the part of leading state q.
+abbrev pub frontBytes : Fdfa → List ℕ
+frontBytes F =
+    (F .letters ∷ F .states ∷ []) ++ tab (F .states) (F .size) ++ table (F .states) (F .letters) (F .step)
+
+abbrev pub partBytes : Fdfa → ℕ → List ℕ
+partBytes F q =
+    table (F .size q) (F .letters) (F .progress q) ++ tab (F .size q) (λ p. mark (F .accepting q p))
+
 abbrev pub pack : Fdfa → List ℕ
-pack F =
-    (F .letters ∷ F .states ∷ [])
-    ++ tab (F .states) (F .size)
-    ++ table (F .states) (F .letters) (F .step)
-    ++ rows (F .states) (λ q. table (F .size q) (F .letters) (F .progress q) ++ tab (F .size q) (λ p. mark (F .accepting q p)))
+pack F = frontBytes F ++ rows (F .states) (partBytes F)
 
 -- Families that have a packed form: complete, every count from 1 to 32.
 pub record Packable (F : Fdfa) : Type 0 where

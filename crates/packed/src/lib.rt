@@ -9,7 +9,7 @@ ghost use Rattle.fdfa.specs.Family.{walk};
 ghost use Rattle.fdfa.specs.Inclusion.{largest};
 ghost use Rattle.fdfa.specs.Refusals.{unless};
 ghost use Rattle.packed.specs.Layout.{letterCount, stateCount, sizeOf, progressAt, sheetLength, tableStep, Header, Walkable};
-ghost use Rattle.packed.specs.Faults.{outside, firstOutside, progressFault, sizesOf, checked, saysOf};
+ghost use Rattle.packed.specs.Faults.{outside, firstOutside, progressFault, sizesOf, checked, saysOf, secondFault, checkedPair, pairSays};
 
 // The counts of a sheet: s, n and the largest k(q).
 pub struct Sizes {
@@ -21,6 +21,12 @@ pub struct Sizes {
 // What the check of a sheet says.
 pub enum Validity {
     Valid(Sizes),
+    Refused(Refusal),
+}
+
+// What the check of two sheets says.
+pub enum Validities {
+    Valid(Sizes, Sizes),
     Refused(Refusal),
 }
 
@@ -192,4 +198,34 @@ pub fn check(sheet: &[u8], part: Part) -> Validity
         return refuse(5, part, 2 + n + i);
     }
     check_progress(sheet, part, s, n)
+}
+
+// The first sheet, then the second, then that both have the same letters.
+pub fn check_pair(first: &[u8], second: &[u8]) -> Validities
+    ensures { λ r. ⌜ pairSays r ≡ checkedPair (now (first .entry)) (now (second .entry)) ⌝ }
+{
+    let one = check(first, Part::First);
+    match one {
+        Validity::Refused(r) => Validities::Refused(r),
+        Validity::Valid(z) => check_second(z, second),
+    }
+}
+
+fn check_second(z: Sizes, second: &[u8]) -> Validities
+    ensures { λ r. ⌜ pairSays r ≡ unless (secondFault (z .letters) (now (second .entry))) (record { first = z; second = sizesOf (now (second .entry)) }) ⌝ }
+{
+    let two = check(second, Part::Second);
+    match two {
+        Validity::Refused(r) => Validities::Refused(r),
+        Validity::Valid(y) => {
+            if z.letters != y.letters {
+                return Validities::Refused(Refusal {
+                    number: 7,
+                    part: Part::Second,
+                    place: 0,
+                });
+            }
+            Validities::Valid(z, y)
+        }
+    }
 }

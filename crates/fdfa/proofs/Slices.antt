@@ -1,0 +1,59 @@
+-- Filling a slice cell by cell, and part by part. Assumes nothing.
+use mathlib.Core.Path.{_≡_, refl, ap, ap₂, sym, _∙_}
+use mathlib.Core.List.{List, [], _∷_, _++_, append-nil, append-assoc}
+use Prim.Native.Nat.{ℕ, zero, suc, _+_, _-_, _≤_, _<_}
+use native.Mathlib.Omega.{arith}
+use lib.ListN.{length, take, drop, set, length-append, length-drop, drop-of-length-le}
+use lib.Seq.{take-all, take-append-seam, drop-append-seam, drop-drop, drop-cons, set-append-seam}
+use Rattle.fdfa.specs.Slices.{written}
+
+pub written-none : (old : List ℕ) → old ≡ written [] old
+unfolding written
+written-none [] = refl
+written-none (x ∷ old) = refl
+
+pub length-written : (d old : List ℕ) → length d ≤ length old → length (written d old) ≡ length old
+unfolding written
+length-written d old h = length-append d (drop (length d) old) ∙ omega (arith, length-drop (length d) old)
+
+-- one cell more
+pub written-cell : (d old : List ℕ) (i v z : ℕ) → length d ≡ i → i < length old → set (written d old) i v ≡ written (d ++ (v ∷ [])) old
+unfolding written
+written-cell d old i v z e h =
+    ap₂ (λ (l : List ℕ) (k : ℕ). set (d ++ l) k v) (drop-cons old (length d) z (omega arith)) (sym e)
+    ∙ (set-append-seam d _ (drop (suc (length d)) old) v
+    ∙ (sym (append-assoc d (v ∷ []) (drop (suc (length d)) old)) ∙ ap (λ (k : ℕ). (d ++ (v ∷ [])) ++ drop k old) next))
+  where
+    next : suc (length d) ≡ length (d ++ (v ∷ []))
+    next = omega (arith, length-append d (v ∷ []))
+
+-- what is left behind the cells that are filled
+left : (d old : List ℕ) → drop (length d) (written d old) ≡ drop (length d) old
+unfolding written
+left d old = drop-append-seam d (drop (length d) old)
+
+done : (d old : List ℕ) → take (length d) (written d old) ≡ d
+unfolding written
+done d old = take-append-seam d (drop (length d) old)
+
+-- one part more: a part from a on is lent, filled from its start, and comes back
+pub written-part : (d chunk old : List ℕ) (a n : ℕ) → length d ≡ a → length old ≡ n → a + length chunk ≤ n
+    → take a (written d old) ++ (written chunk (take (n - a) (drop a (written d old))) ++ drop (n - a) (drop a (written d old))) ≡ written (d ++ chunk) old
+unfolding written
+written-part d chunk old a n e f h =
+    ap (λ (k : ℕ). take k (written d old) ++ (written chunk (take (n - k) (drop k (written d old))) ++ drop (n - k) (drop k (written d old)))) (sym e)
+    ∙ (ap₂ (λ (x y : List ℕ). x ++ (written chunk (take (n - length d) y) ++ drop (n - length d) y)) (done d old) (left d old)
+    ∙ (ap₂ (λ (x y : List ℕ). d ++ (written chunk x ++ y)) (take-all (n - length d) rest whole) (none (n - length d) rest whole)
+    ∙ (ap (λ (x : List ℕ). d ++ x) (append-nil (written chunk rest)) ∙ (sym (append-assoc d chunk (drop (length chunk) rest)) ∙ ap (λ (x : List ℕ). (d ++ chunk) ++ x) after))))
+  where
+    rest : List ℕ
+    rest = drop (length d) old
+
+    whole : length rest ≤ n - length d
+    whole = omega (arith, length-drop (length d) old)
+
+    none : (k : ℕ) (l : List ℕ) → length l ≤ k → drop k l ≡ []
+    none k l h = drop-of-length-le l h
+
+    after : drop (length chunk) rest ≡ drop (length (d ++ chunk)) old
+    after = drop-drop (length chunk) (length d) old ∙ ap (λ (k : ℕ). drop k old) (sym (length-append d chunk))
