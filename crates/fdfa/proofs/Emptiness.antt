@@ -3,9 +3,8 @@ use mathlib.Core.Path.{_≡_, refl, ap, ap₂, sym, subst, _∙_}
 use mathlib.Core.Bool.{Bool, true, false, _&&_}
 use mathlib.Core.List.{List, [], _∷_, _++_}
 use mathlib.Core.Logic.{_⊎_, inl, inr}
-use Prim.Native.Nat.{ℕ, zero, suc, _+_, _*_, _≤_, _<_, max}
+use Prim.Native.Nat.{ℕ, zero, suc, _+_, _*_, _≤_, _<_}
 use native.Mathlib.Omega.{arith}
-use native.Mathlib.Decide.{ℕ-discrete}
 use native.Mathlib.Nat.{le-trans, mul-le-mul-left}
 use lib.Arith.{digits-lt}
 use lib.ListN.{length}
@@ -17,7 +16,8 @@ use Rattle.fdfa.specs.Normalization.{preperiod, periodCount, Normalized}
 use Rattle.fdfa.specs.Acceptance.{accepts}
 use Rattle.fdfa.specs.Boolean.{beside}
 use Rattle.fdfa.specs.Enumeration.{Witness, absent, lasso, firstLasso}
-use Rattle.fdfa.specs.Inclusion.{First, Answers, none-has, first-is, normalized, largest, widest, Accepted, emptiness}
+use Rattle.fdfa.specs.Inclusion.{First, Answers, none-has, first-is, normalized, widest, Accepted, emptiness}
+use Rattle.fdfa.proofs.Largest.{largest-le}
 use Rattle.fdfa.proofs.Tests.{and-left, and-right, both}
 use Rattle.fdfa.proofs.Words.{walk-closed}
 use Rattle.fdfa.proofs.Order.{before-irrefl, before-trans}
@@ -51,15 +51,6 @@ upto-before {u} {v} {u′} {v″ = v″} (inr b) (same p) (same q) =
     inr (subst (λ (x : List ℕ). Before u v u′ x) q (subst (λ (x : List ℕ). Before u v x v″) p b))
 upto-before (inr b) (same p) (later q) = inr (before-trans b (by-period p q))
 upto-before (inr b) (later p) q = inr (before-trans b (by-prefix p))
-
-pub largest-le : (m : ℕ) (f : ℕ → ℕ) (q : ℕ) → q < m → f q ≤ largest m f
-unfolding largest
-largest-le zero f q h = absurd (omega arith)
-largest-le (suc m) f q h = by (largest-le m f q) (ℕ-discrete q m)
-  where
-    by : (q < m → f q ≤ largest m f) → Dec (q ≡ m) → f q ≤ max (largest m f) (f m)
-    by ih (yes e) = omega (arith, ap f e)
-    by ih (no e) = omega (arith, ih (omega arith))
 
 some-letters : (v : List ℕ) → 1 ≤ length v → v ≡ [] → ⊥
 some-letters v h e = let z : length v ≡ 0 = ap length e in omega arith

@@ -17,7 +17,8 @@ use Rattle.fdfa.specs.Inclusion.{Counterexample, Answers, none-has, norm
 use Rattle.fdfa.proofs.Tests.{and-left, and-right, both, not-of, of-not}
 use Rattle.fdfa.proofs.Normal.{normal, Normalization, normalization}
 use Rattle.fdfa.proofs.Product.{left-below, product-complete, product-parts, product-normalized, product-closing}
-use Rattle.fdfa.proofs.Emptiness.{answers-unique, answers-map, largest-le, normalized-says, normalized-passes, same-prefix, search-answers, search-bounds}
+use Rattle.fdfa.proofs.Largest.{largest-le}
+use Rattle.fdfa.proofs.Emptiness.{answers-unique, answers-map, normalized-says, normalized-passes, same-prefix, search-answers, search-bounds}
 
 -- accepted by the first and rejected by the second
 abbrev pub butNot : Bool → Bool → Bool

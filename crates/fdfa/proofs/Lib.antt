@@ -11,6 +11,7 @@ pub mod Product
 pub mod Complement
 pub mod Enumerated
 pub mod Pumping
+pub mod Largest
 pub mod Tests
 pub mod Emptiness
 pub mod Inclusion

@@ -1,10 +1,10 @@
 -- Filling a slice cell by cell, and part by part. Assumes nothing.
-use mathlib.Core.Path.{_≡_, refl, ap, ap₂, sym, _∙_}
+use mathlib.Core.Path.{_≡_, refl, ap, ap₂, sym, subst, _∙_}
 use mathlib.Core.List.{List, [], _∷_, _++_, append-nil, append-assoc}
 use Prim.Native.Nat.{ℕ, zero, suc, _+_, _-_, _≤_, _<_}
 use native.Mathlib.Omega.{arith}
-use lib.ListN.{length, take, drop, set, length-append, length-drop, drop-of-length-le}
-use lib.Seq.{take-all, take-append-seam, drop-append-seam, drop-drop, drop-cons, set-append-seam}
+use lib.ListN.{length, take, drop, set, length-set, length-append, length-drop, drop-of-length-le}
+use lib.Seq.{length-take-le, take-all, take-append-seam, drop-append-seam, drop-append-add, drop-drop, drop-cons, set-append-seam}
 use Rattle.fdfa.specs.Slices.{written}
 
 pub written-none : (old : List ℕ) → old ≡ written [] old
@@ -57,3 +57,50 @@ written-part d chunk old a n e f h =
 
     after : drop (length chunk) rest ≡ drop (length (d ++ chunk)) old
     after = drop-drop (length chunk) (length d) old ∙ ap (λ (k : ℕ). drop k old) (sym (length-append d chunk))
+
+-- A slice that was filled from its start with d.
+pub record Begun (d old out : List ℕ) : Type 0 where
+  pub cells : out ≡ written d old
+  pub same : length out ≡ length old
+
+pub begun-none : (old : List ℕ) → Begun [] old old
+begun-none old = record { cells = written-none old; same = refl }
+
+pub begun-first : {d old out : List ℕ} → out ≡ written d old → length d ≤ length old → Begun d old out
+begun-first {d} {old} e h = record { cells = e; same = ap length e ∙ length-written d old h }
+
+pub begun-as : {d e old out : List ℕ} → d ≡ e → Begun d old out → Begun e old out
+begun-as {old = old} {out = out} p b = subst (λ (x : List ℕ). Begun x old out) p b
+
+-- the part from a on, as it is lent, has what is left
+pub lent-length : {d old out : List ℕ} {a : ℕ} → Begun d old out → a ≤ length old → length (take (length out - a) (drop a out)) ≡ length old - a
+lent-length {out = out} {a = a} b h =
+    let e : length (take (length out - a) (drop a out)) ≡ length out - a = length-take-le (length out - a) (drop a out) (omega (arith, length-drop a out)) in
+    omega (arith, b .same)
+
+-- it comes back filled with one chunk more
+pub begun-more : {d old out : List ℕ} (chunk last : List ℕ) {a : ℕ} → Begun d old out → length d ≡ a → a + length chunk ≤ length old
+    → last ≡ written chunk (take (length out - a) (drop a out)) → Begun (d ++ chunk) old (take a out ++ (last ++ drop (length out - a) (drop a out)))
+begun-more {d} {old} {out} chunk last {a} b e h l = begun-first (back ∙ written-part d chunk old a (length out) e (sym (b .same)) (omega (arith, b .same))) (omega (arith, length-append d chunk))
+  where
+    back : take a out ++ (last ++ drop (length out - a) (drop a out)) ≡ take a (written d old) ++ (written chunk (take (length out - a) (drop a (written d old))) ++ drop (length out - a) (drop a (written d old)))
+    back = ap (λ (y : List ℕ). take a out ++ (y ++ drop (length out - a) (drop a out))) l
+        ∙ ap (λ (w : List ℕ). take a w ++ (written chunk (take (length out - a) (drop a w)) ++ drop (length out - a) (drop a w))) (b .cells)
+
+-- filling again from the start, at least as far
+pub written-again : (d e old : List ℕ) → length d ≤ length e → written e (written d old) ≡ written e old
+unfolding written
+written-again d e old h =
+    ap (λ (l : List ℕ). e ++ l)
+    (ap (λ (k : ℕ). drop k (d ++ drop (length d) old)) (sym far)
+    ∙ (drop-append-add d (drop (length d) old) (length e - length d) ∙ (drop-drop (length e - length d) (length d) old ∙ ap (λ (k : ℕ). drop k old) far)))
+  where
+    far : length d + (length e - length d) ≡ length e
+    far = omega arith
+
+-- one cell more
+pub begun-cell : {d old out : List ℕ} (v : ℕ) {i : ℕ} → Begun d old out → length d ≡ i → i < length old → Begun (d ++ (v ∷ [])) old (set out i v)
+begun-cell {d} {old} {out} v {i} b e h = record {
+  cells = ap (λ (l : List ℕ). set l i v) (b .cells) ∙ written-cell d old i v 0 e h;
+  same = length-set out i v ∙ b .same;
+}

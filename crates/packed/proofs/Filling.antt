@@ -1,12 +1,12 @@
 -- Filling a slice with a table, one entry or one row after the other. Assumes nothing.
 use mathlib.Core.Path.{_≡_, refl, ap, sym, _∙_}
 use mathlib.Core.List.{List, [], _∷_, _++_}
-use Prim.Native.Nat.{ℕ, zero, suc, _+_, _*_, _-_, _≤_, _<_}
+use Prim.Native.Nat.{ℕ, zero, suc, _+_, _≤_, _<_}
 use native.Mathlib.Omega.{arith}
 use native.Mathlib.Numerals.{add-one}
-use lib.ListN.{length, take, drop, set, length-set}
+use lib.ListN.{length, set, length-set}
 use Rattle.fdfa.specs.Slices.{written}
-use Rattle.fdfa.proofs.Slices.{written-none, written-cell, written-part}
+use Rattle.fdfa.proofs.Slices.{written-none, written-cell, Begun, begun-none}
 use Rattle.packed.specs.Tables.{tab, rows}
 use Rattle.packed.proofs.Tabulated.{length-tab}
 
@@ -34,14 +34,11 @@ filling-more {m} {f} {old} {out} {i} v s h d = record { room = s .room; upto = o
 pub filling-all : {m : ℕ} {f : ℕ → ℕ} {old out : List ℕ} {i : ℕ} → Filling m f old out i → m ≤ i → out ≡ written (tab m f) old
 filling-all {m} {f} {old} {out} {i} s h = let e : i ≡ m = omega (arith, s .upto) in s .cells ∙ ap (λ (k : ℕ). written (tab k f) old) e
 
--- rows of any lengths
-pub rows-none : (f : ℕ → List ℕ) (old : List ℕ) → old ≡ written (rows 0 f) old
+-- rows, one after the other: the first x of them are written
+pub rows-begin : (f : ℕ → List ℕ) (old : List ℕ) → Begun (rows 0 f) old old
 unfolding rows
-rows-none f old = written-none old
+rows-begin f old = begun-none old
 
-pub rows-more : (i : ℕ) (f : ℕ → List ℕ) (old out : List ℕ) (a n : ℕ) → out ≡ written (rows i f) old → length (rows i f) ≡ a → length old ≡ n → a + length (f i) ≤ n
-    → take a out ++ (written (f i) (take (n - a) (drop a out)) ++ drop (n - a) (drop a out)) ≡ written (rows (i + 1) f) old
+pub rows-next : (f : ℕ → List ℕ) (x : ℕ) → rows x f ++ f x ≡ rows (x + 1) f
 unfolding rows
-rows-more i f old out a n e d l h =
-    ap (λ (w : List ℕ). take a w ++ (written (f i) (take (n - a) (drop a w)) ++ drop (n - a) (drop a w))) e
-    ∙ (written-part (rows i f) (f i) old a n d l h ∙ ap (λ (k : ℕ). written (rows k f) old) (sym (add-one i)))
+rows-next f x = ap (λ (k : ℕ). rows k f) (sym (add-one x))

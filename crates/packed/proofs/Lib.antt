@@ -4,5 +4,4 @@ pub mod Soundness
 pub mod Reading
 pub mod Tabulated
 pub mod Packing
-pub mod Starred
 pub mod Filling

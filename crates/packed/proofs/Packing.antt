@@ -25,7 +25,7 @@ mark-byte zero h = refl
 mark-byte (suc zero) h = refl
 mark-byte (suc (suc x)) h = absurd (omega arith)
 
-mark-says : (t : Bool) → eqb (mark t) 1 ≡ t
+pub mark-says : (t : Bool) → eqb (mark t) 1 ≡ t
 mark-says true = refl
 mark-says false = refl
 
@@ -34,7 +34,7 @@ mark-few true = omega arith
 mark-few false = omega arith
 
 -- the bytes of one leading state
-part-length : (k s : ℕ) → k * s + k ≡ k * (s + 1)
+pub part-length : (k s : ℕ) → k * s + k ≡ k * (s + 1)
 part-length k s = omega (arith, mul-add k s 1, mul-one k)
 
 module _ (b : List ℕ) (v : Valid b) where

@@ -12,13 +12,14 @@ use lib.Dec.{ltb, eqb}
 use lib.ListN.{length, getD}
 use borrow.Author.Tests.{le-ltb, ltb-false, eq-eqb, eqb-true, not-false}
 use Rattle.fdfa.specs.declared.Part.{Part}
+use Rattle.fdfa.specs.declared.Part.the-variants.{First, Second}
 use Rattle.fdfa.specs.Family.{Closed, Complete}
 use Rattle.fdfa.specs.Refusals.{Fault, sound, _then_, when, given}
 use Rattle.fdfa.proofs.Least.{least-none}
 use Rattle.fdfa.proofs.Refusals.{when-passes, passed, then-left, then-right, when-sound, gives, was-given}
 use Rattle.packed.specs.declared.Sizes.{Sizes}
 use Rattle.packed.specs.Layout.{letterCount, stateCount, sizeOf, leadingAt, progressAt, marksAt, sheetLength, tableStep, decode, Packable, Header, Valid}
-use Rattle.packed.specs.Faults.{outside, firstOutside, scan, progressFault, sheetFault, sizesOf, checked}
+use Rattle.packed.specs.Faults.{outside, firstOutside, scan, progressFault, sheetFault, secondFault, pairFault, sizesOf, checked}
 use Rattle.packed.proofs.Scan.{inside, not-outside, all-inside, scan-passes}
 
 module _ (number : ℕ) (part : Part) (low limit : ℕ) (b : List ℕ) (at count : ℕ) where
@@ -198,3 +199,19 @@ valid-packable b v = record {
   few-states = v .header .few-states;
   few-progress = v .header .few-size;
 }
+
+-- two sheets are refused for nothing exactly if both are valid, with the same letters
+pub pair-valid : (b c : List ℕ) → pairFault b c ≡ sound → Valid b × Valid c × (letterCount b ≡ letterCount c)
+pair-valid b c e = (
+  sound-valid First b (then-left (sheetFault First b) (secondFault (letterCount b) c) e),
+  sound-valid Second c (then-left (sheetFault Second c) _ later),
+  eqb-true (letterCount b) (letterCount c) (not-false _ (when-sound _ 7 Second 0 (then-right (sheetFault Second c) _ later))),
+)
+  where
+    later : secondFault (letterCount b) c ≡ sound
+    later = then-right (sheetFault First b) (secondFault (letterCount b) c) e
+
+pub valid-pair : (b c : List ℕ) → Valid b → Valid c → letterCount b ≡ letterCount c → pairFault b c ≡ sound
+valid-pair b c v w e =
+    passed _ (valid-sound First b v)
+    ∙ (passed _ (valid-sound Second c w) ∙ when-passes 7 Second 0 (ap not (eq-eqb (letterCount b) (letterCount c) e)))

@@ -115,3 +115,15 @@ getD-table k s f q a h l =
     ap (λ (n : ℕ). getD (table k s f) (n + a) 0)
     (sym (sum-same q (λ r. length (tab s (f r))) (λ r. s) (λ r i. length-tab s (f r)) ∙ sum-even q s))
     ∙ (getD-rows k (λ r. tab s (f r)) q a h (rw (length-tab s (f q)) l) ∙ getD-tab s (f q) a l)
+
+-- a row and those before it are within the rows
+pub rows-within : (m : ℕ) (f : ℕ → List ℕ) (x : ℕ) → x < m → length (rows x f) + length (f x) ≤ length (rows m f)
+unfolding rows
+rows-within zero f x h = absurd (omega arith)
+rows-within (suc m) f x h = by (ℕ-discrete x m) (rows-within m f x)
+  where
+    by : Dec (x ≡ m) → (x < m → length (rows x f) + length (f x) ≤ length (rows m f)) → length (rows x f) + length (f x) ≤ length (rows m f ++ f m)
+    by (yes e) ih =
+        let d : length (rows x f) + length (f x) ≡ length (rows m f) + length (f m) = ap (λ (k : ℕ). length (rows k f) + length (f k)) e in
+        omega (arith, length-append (rows m f) (f m))
+    by (no e) ih = omega (arith, ih (omega arith), length-append (rows m f) (f m))

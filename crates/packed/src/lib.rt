@@ -57,6 +57,14 @@ pub fn first_outside(sheet: &[u8], low: usize, limit: usize, at: usize, count: u
     count
 }
 
+// How many leading states the sheet has.
+pub fn states(sheet: &[u8]) -> usize
+    requires { ⌜ 1 < length (now sheet) ⌝ }
+    ensures { λ r. ⌜ r ≡ stateCount (now (sheet .entry)) ⌝ }
+{
+    wide(sheet[1])
+}
+
 // The size of the progress automaton of q.
 pub fn size(sheet: &[u8], q: usize) -> usize
     requires { ⌜ 2 + q < length (now sheet) ⌝ }

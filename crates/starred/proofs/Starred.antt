@@ -3,14 +3,18 @@ use mathlib.Core.Path.{_≡_, refl}
 use mathlib.Core.Bool.{Bool, true, false}
 use mathlib.Core.List.{List, [], _∷_}
 use Prim.Native.Nat.{ℕ}
-use Rattle.fdfa.specs.Normalization.{least, returnFrom, returning, preperiod, periodCount}
-use Rattle.fdfa.specs.Acceptance.{accepts, loopState}
-use Rattle.fdfa.specs.Boolean.{complement, intersection}
+use Rattle.fdfa.specs.Normalization.{least, returnFrom, returning}
+use Rattle.fdfa.specs.Acceptance.{Verdict}
 use Rattle.fdfa.specs.Enumeration.{firstLetter, firstOfLength, firstWord, Witness, absent, lasso}
 use Rattle.fdfa.specs.Inclusion.{comparison, emptiness, largest, countBelow}
-use Rattle.fdfa.specs.OmegaWord.{letterAt}
+use Rattle.fdfa.specs.Refusals.{Result, given, refused}
 use Rattle.packed.specs.Tables.{tab, rows, sum}
-use Rattle.packed.specs.Layout.{decode, pack, progressAt}
+use Rattle.packed.specs.Layout.{decode, progressAt}
+use Rattle.packed.specs.Faults.{firstOutside, progressFault, sheetFault}
+use Rattle.membership.specs.Verdict.{lassoFault, judged}
+use Rattle.cursor.specs.declared.Cursor.{Cursor}
+use Rattle.cursor.specs.Walking.{startOf, nextOf, stepped, moved}
+use Rattle.boolean.specs.Operations.{complementBytes, intersectionBytes}
 
 -- The sheets A to E.
 abbrev pub a : List ℕ
@@ -30,7 +34,7 @@ e = 1 ∷ 3 ∷ 1 ∷ 1 ∷ 1 ∷ 1 ∷ 2 ∷ 1 ∷ 0 ∷ 0 ∷ 0 ∷ 1 ∷ 0 �
 
 -- A row: the case, then its outcome.
 pub data Row : Type 0 where
-  judged : (sheet u v : List ℕ) → (accepted : Bool) → Row
+  verdict : (sheet u v : List ℕ) → (accepted : Bool) → Row
   closing : (sheet u v : List ℕ) → (i j : ℕ) (accepted : Bool) → Row
   placed : (sheet u v : List ℕ) → (i j place : ℕ) (accepted : Bool) → Row
   intersected : (first second u v : List ℕ) → (accepted accepted-by-first : Bool) → Row
@@ -39,16 +43,26 @@ pub data Row : Type 0 where
   emptied : (sheet : List ℕ) → Witness → Row
   played : (u v : List ℕ) → (letters : List ℕ) → Row
 
+-- A call gives a verdict, of which something holds.
+abbrev pub Gives : Result Verdict → (Verdict → Type 0) → Type 0
+Gives (given w) P = P w
+Gives (refused r) P = ⊥
+
+-- Steps from the cursor pass these letters.
+abbrev pub Plays : Cursor → List ℕ → List ℕ → List ℕ → Type 0
+Plays c u v [] = Unit {0}
+Plays c u v (a ∷ l) = (stepped c u v ≡ moved a (nextOf c u v)) × Plays (nextOf c u v) u v l
+
+-- What a row says of the definitions.
 abbrev pub Holds : Row → Type 0
-Holds (judged sheet u v ok) = accepts (decode sheet) u v ≡ ok
-Holds (closing sheet u v i j ok) = (preperiod (decode sheet) u v ≡ i) × (periodCount (decode sheet) u v ≡ j) × (accepts (decode sheet) u v ≡ ok)
-Holds (placed sheet u v i j q ok) =
-    (preperiod (decode sheet) u v ≡ i) × (periodCount (decode sheet) u v ≡ j) × (loopState (decode sheet) u v ≡ q) × (accepts (decode sheet) u v ≡ ok)
-Holds (intersected x y u v ok first) = (accepts (intersection (decode x) (decode y)) u v ≡ ok) × (accepts (decode x) u v ≡ first)
-Holds (complemented sheet r) = pack (complement (decode sheet)) ≡ r
+Holds (verdict sheet u v ok) = Gives (judged sheet u v) (λ w. w .accepted ≡ ok)
+Holds (closing sheet u v i j ok) = Gives (judged sheet u v) (λ w. (w .i ≡ i) × (w .j ≡ j) × (w .accepted ≡ ok))
+Holds (placed sheet u v i j q ok) = Gives (judged sheet u v) (λ w. (w .i ≡ i) × (w .j ≡ j) × (w .place ≡ q) × (w .accepted ≡ ok))
+Holds (intersected x y u v ok first) = Gives (judged (intersectionBytes x y) u v) (λ w. w .accepted ≡ ok) × Gives (judged x u v) (λ w. w .accepted ≡ first)
+Holds (complemented sheet r) = complementBytes sheet ≡ r
 Holds (compared x y r w) = (comparison (decode x) (decode y) .reached ≡ r) × (comparison (decode x) (decode y) .witness ≡ w)
 Holds (emptied sheet w) = emptiness (decode sheet) .witness ≡ w
-Holds (played u v l) = tab 5 (letterAt u v) ≡ l
+Holds (played u v l) = Plays (startOf u) u v l
 
 abbrev pub All : List Row → Type 0
 All [] = Unit {0}
@@ -58,9 +72,9 @@ All (r ∷ rs) = Holds r × All rs
 abbrev pub starred : List Row
 starred =
     closing b [] (0 ∷ []) 0 1 true
-    ∷ judged b (0 ∷ []) (1 ∷ []) false
-    ∷ judged c [] (0 ∷ []) false
-    ∷ judged c [] (0 ∷ 0 ∷ []) true
+    ∷ verdict b (0 ∷ []) (1 ∷ []) false
+    ∷ verdict c [] (0 ∷ []) false
+    ∷ verdict c [] (0 ∷ 0 ∷ []) true
     ∷ placed e [] (0 ∷ []) 1 2 1 true
     ∷ placed e (0 ∷ 0 ∷ []) (0 ∷ []) 0 2 2 false
     ∷ intersected c d [] (0 ∷ []) true false
@@ -72,7 +86,7 @@ starred =
     ∷ []
 
 pub holds : All starred
-unfolding least returnFrom returning firstLetter firstOfLength firstWord largest countBelow letterAt tab rows sum progressAt
+unfolding least returnFrom returning firstLetter firstOfLength firstWord largest countBelow tab rows sum progressAt firstOutside progressFault sheetFault lassoFault
 holds = (
   (refl, refl, refl),
   (
@@ -95,7 +109,7 @@ holds = (
                     (refl, refl),
                     (
                       refl,
-                      (refl, tt),
+                      ((refl, (refl, (refl, (refl, (refl, tt))))), tt),
                     ),
                   ),
                 ),

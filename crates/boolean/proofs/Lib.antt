@@ -1,0 +1,4 @@
+pub mod Turning
+pub mod Pairing
+pub mod Extent
+pub mod Verdicts

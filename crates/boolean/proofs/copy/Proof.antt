@@ -1,0 +1,60 @@
+-- `boolean::copy` meets its contract. Assumes nothing.
+use mathlib.Core.Path.{_≡_, refl, ap, _∙_}
+use mathlib.Core.List.{List}
+use Prim.Native.Nat.{ℕ, _-_}
+use native.Mathlib.Omega.{arith}
+use denote.Ref.{now}
+use lib.ListN.{length, getD}
+use Rattle.fdfa.specs.Slices.{written}
+use Rattle.packed.proofs.Tabulated.{tab-getD}
+use Rattle.packed.proofs.Filling.{Filling, filling-none, filling-more, filling-all}
+use borrow.Author.Needs.{needs}
+use Rattle.boolean.proofs.copy.Statement.{statement}
+use Rattle.boolean.proofs.copy.Tie as tie
+
+abbrev Inv-loop : tie.InvT-loop
+Inv-loop from out₀ i₀ out i = Filling (length from) (λ k. getD from k 0) out₀ out i
+
+abbrev μ-loop : tie.MeasureT-loop
+μ-loop from out₀ i₀ out i = length from - i
+
+loop-holds : tie.Need-loop-holds Inv-loop μ-loop
+loop-holds c = filling-none _ _ _ (c .pre)
+
+shared-slice-read-out : tie.Need-shared-slice-read-out Inv-loop μ-loop
+shared-slice-read-out c = search needs
+
+slice-write-out : tie.Need-slice-write-out Inv-loop μ-loop
+slice-write-out c = let i = c .before .before .loop .inv in omega (arith, i .room, i .same, c .before .loop-test .taken)
+
+add-i : tie.Need-add-i Inv-loop μ-loop
+add-i c = search needs
+
+loop-less : tie.Need-loop-less Inv-loop μ-loop
+loop-less c = search needs
+
+loop-again : tie.Need-loop-again Inv-loop μ-loop
+loop-again c = filling-more _ (c .before .before .loop .inv) (c .before .loop-test .taken) refl
+
+same-length : tie.Need-same-length Inv-loop μ-loop
+same-length c = c .before .loop .inv .same
+
+returns : tie.Need-returns Inv-loop μ-loop
+returns c =
+    let s = c .before .before .args in
+    filling-all (c .before .loop .inv) (c .loop-test .left) ∙ ap (λ (l : List ℕ). written l (now (s .out))) (tab-getD (now (s .from)))
+
+pub copy-spec : {M : Type 1} → statement M
+copy-spec =
+    tie.close
+    (tie.spec
+    Inv-loop
+    μ-loop
+    loop-holds
+    shared-slice-read-out
+    slice-write-out
+    add-i
+    loop-less
+    loop-again
+    same-length
+    returns)

@@ -1,0 +1,91 @@
+-- `boolean::turn_part` meets its contract: the next states, then the marks. Assumes nothing.
+use mathlib.Core.Path.{_≡_, ap, sym, _∙_}
+use mathlib.Core.List.{List}
+use Prim.Native.Nat.{ℕ, _-_, _≤_}
+use native.Mathlib.Omega.{arith}
+use denote.Ref.{now}
+use lib.ListN.{length, take, drop, length-drop}
+use lib.Seq.{length-take-le, take-all}
+use Rattle.fdfa.proofs.Slices.{Begun, begun-first, begun-more, lent-length}
+use Rattle.fdfa.specs.Slices.{written}
+use Rattle.packed.specs.Tables.{tab}
+use Rattle.packed.proofs.Tabulated.{length-tab}
+use Rattle.boolean.specs.Operations.{turnedMark}
+use borrow.Author.Needs.{needs}
+use borrow.Author.Needs.{needs}
+use Rattle.boolean.proofs.turn_part.Statement.{statement}
+use Rattle.boolean.proofs.turn_part.Tie as tie
+
+abbrev start : tie.After-copy → tie.Start
+start c = c .before .before .before .before .before
+
+first-length : (c : tie.Start) → length (take (c .args .count) (now (c .args .part))) ≡ c .args .count
+first-length c = length-take-le _ _ (c .pre .0)
+
+begun : (c : tie.After-copy) → let s = start c .args in Begun (take (s .count) (now (s .part))) (now (s .out)) (c .copy .last .1 .0)
+begun c = begun-first (c .copy .ensures) (omega (arith, first-length (start c), start c .pre .0, start c .pre .1))
+
+-- the marks, as they are lent, are what stands behind the next states
+marks-are : (part : List ℕ) (count : ℕ) → count ≤ length part → take (length part - count) (drop count part) ≡ drop count part
+marks-are part count h = take-all (length part - count) (drop count part) (omega (arith, length-drop count part))
+
+turned-are : (part : List ℕ) (count : ℕ) → count ≤ length part
+    → tab (length (take (length part - count) (drop count part))) (turnedMark (take (length part - count) (drop count part))) ≡ tab (length part - count) (turnedMark (drop count part))
+turned-are part count h =
+    ap (λ (l : List ℕ). tab (length l) (turnedMark l)) (marks-are part count h) ∙ ap (λ (k : ℕ). tab k (turnedMark (drop count part))) (length-drop count part)
+
+slice-aggregate-copy : tie.Need-slice-aggregate-copy
+slice-aggregate-copy c = sym (first-length (c .before .before .before))
+
+copy-requires : tie.Need-copy-requires
+copy-requires c κs = let s = c .before .before .before .before in omega (arith, first-length s, s .pre .0, s .pre .1)
+
+sub-turn-marks : tie.Need-sub-turn-marks
+sub-turn-marks c = search needs
+
+part-turn-marks-start : tie.Need-part-turn-marks-start
+part-turn-marks-start c = search needs
+
+part-turn-marks-end : tie.Need-part-turn-marks-end
+part-turn-marks-end c = search needs
+
+sub-turn-marks-2 : tie.Need-sub-turn-marks-2
+sub-turn-marks-2 c = search needs
+
+part-turn-marks-start-2 : tie.Need-part-turn-marks-start-2
+part-turn-marks-start-2 c = search needs
+
+part-turn-marks-end-2 : tie.Need-part-turn-marks-end-2
+part-turn-marks-end-2 c = search needs
+
+turn-marks-requires : tie.Need-turn-marks-requires
+turn-marks-requires c κs = search needs
+
+same-length : tie.Need-same-length
+same-length c = search needs
+
+returns : tie.Need-returns
+returns c =
+    let d = c .before .before .before .before .before .before .before in
+    let s = start d .args in
+    let marks = turnedMark (drop (s .count) (now (s .part))) in
+    let k = length (now (s .part)) - s .count in
+    let o = d .copy .last .1 .0 in
+    begun-more (tab k marks) _ (begun d) (first-length (start d)) (omega (arith, length-tab k marks, start d .pre .0, start d .pre .1))
+    (c .before .before .turn-marks .ensures ∙ ap (λ (l : List ℕ). written l (take (length o - s .count) (drop (s .count) o))) (turned-are (now (s .part)) (s .count) (start d .pre .0))) .cells
+
+pub turn-part-spec : {M : Type 1} → statement M
+turn-part-spec =
+    tie.close
+    (tie.spec
+    slice-aggregate-copy
+    copy-requires
+    sub-turn-marks
+    part-turn-marks-start
+    part-turn-marks-end
+    sub-turn-marks-2
+    part-turn-marks-start-2
+    part-turn-marks-end-2
+    turn-marks-requires
+    same-length
+    returns)
