@@ -1,0 +1,12 @@
+pub mod CellLaws
+pub mod Letters
+pub mod Counts
+pub mod Theory
+pub mod Steps
+pub mod Expand
+pub mod Product
+pub mod Phases
+pub mod Ends
+pub mod Work
+pub mod Places
+pub mod Reading

@@ -1,0 +1,85 @@
+-- The cells of the two phases within one slice: parts that are lent and come back. Assumes nothing.
+use mathlib.Core.Path.{_≡_, refl, ap, sym, subst, _∙_}
+use mathlib.Core.Logic.{_≢_}
+use mathlib.Core.List.{List, [], _∷_, _++_, append-nil}
+use Prim.Native.Nat.{ℕ, zero, suc, _+_, _*_, _-_, _/_, _%_, _≤_, _<_}
+use native.Mathlib.Omega.{arith}
+use native.Mathlib.Decide.{ℕ-discrete}
+use native.Mathlib.Nat.{le-of-suc-le-suc, not-suc-le-zero, sub-self}
+use lib.ListN.{length, getD, set, take, drop, replicate, length-drop, length-append, length-replicate, length-set, drop-of-length-le}
+use lib.Seq.{take-all, take-at, drop-at, length-take-le, take-set-lt, getD-set-same, getD-set-other}
+use Rattle.search.specs.Cells.{flag, flags, stateAt, zeros}
+use Rattle.search.proofs.CellLaws.{flags-set, flags-zeros}
+
+pub zeros-getD : (m x : ℕ) → _≡_ {A = ℕ} (getD (zeros m) x 0) 0
+zeros-getD zero x = refl
+zeros-getD (suc m) zero = refl
+zeros-getD (suc m) (suc x) = zeros-getD m x
+
+pub take-zeros : (n m : ℕ) → n ≤ m → take n (zeros m) ≡ zeros n
+take-zeros zero m h = refl
+take-zeros (suc n) zero h = absurd (not-suc-le-zero h)
+take-zeros (suc n) (suc m) h = ap (λ (l : List ℕ). 0 ∷ l) (take-zeros n m (le-of-suc-le-suc h))
+
+-- all cells 0 but the root's flag
+pub root-cells : (n m : ℕ) → 1 ≤ n → n ≤ m → take n (set (zeros m) 0 1) ≡ set (zeros n) 0 1
+root-cells n m h g = take-set-lt n (zeros m) 0 1 h ∙ ap (λ (l : List ℕ). set l 0 1) (take-zeros n m g)
+
+pub root-flags : (n : ℕ) → 1 ≤ n → flags (set (zeros n) 0 1) + 0 ≡ 1
+root-flags n h = omega (arith, flags-set (zeros n) 0 1 (rw (length-replicate {A = ℕ} n 0) h), flags-zeros n, zeros-getD n 0)
+
+pub root-marked : (n : ℕ) → 1 ≤ n → (x : ℕ) → flag (set (zeros n) 0 1) x ≡ 1 → (_≡_ {A = ℕ} 0 0) × (x ≡ 0)
+root-marked n h x on = (refl, by (ℕ-discrete x 0))
+  where
+    by : Dec (x ≡ 0) → x ≡ 0
+    by (yes d) = d
+    by (no d) = absurd (omega (arith, on, getD-set-other (zeros n) 0 x 1 0 d, zeros-getD n x))
+
+pub root-lit : (n : ℕ) → 1 ≤ n → flag (set (zeros n) 0 1) 0 ≡ 1
+root-lit n h = rw (getD-set-same (zeros n) 0 1 0 (rw (length-replicate {A = ℕ} n 0) h))
+
+pub zeros-marked : (n : ℕ) (r x : ℕ) → flag (zeros n) x ≡ 1 → (_≡_ {A = ℕ} 1 0) × (x ≡ r)
+zeros-marked n r x on = absurd (omega (arith, on, zeros-getD n x))
+
+module _ (n : ℕ) (work : List ℕ) (h : n ≤ length work) where
+  pub tail-is : take (length work - n) (drop n work) ≡ drop n work
+  tail-is = take-all (length work - n) (drop n work) (rw (length-drop n work) (omega arith))
+
+  -- the front comes back
+  pub front-take : (ys : List ℕ) → length ys ≡ n → take n (ys ++ drop n work) ≡ ys
+  front-take ys e = take-at ys (drop n work) n e
+
+  pub front-length : (ys : List ℕ) → length ys ≡ n → length (ys ++ drop n work) ≡ length work
+  front-length ys e = rw (length-append ys (drop n work), length-drop n work) (omega arith)
+
+  -- the rest comes back
+  rest-nil : drop (length work - n) (drop n work) ≡ []
+  rest-nil = drop-of-length-le (drop n work) {i = length work - n} (rw (length-drop n work) (omega arith))
+
+  pub rest-take : (ys : List ℕ) → take n (take n work ++ (ys ++ drop (length work - n) (drop n work))) ≡ take n work
+  rest-take ys = take-at (take n work) _ n (length-take-le n work h)
+
+  pub rest-drop : (ys : List ℕ) → drop n (take n work ++ (ys ++ drop (length work - n) (drop n work))) ≡ ys
+  rest-drop ys = drop-at (take n work) _ n (length-take-le n work h) ∙ (ap (λ (l : List ℕ). ys ++ l) rest-nil ∙ append-nil ys)
+
+  pub rest-length : (ys : List ℕ) → length ys ≡ length work - n → length (take n work ++ (ys ++ drop (length work - n) (drop n work))) ≡ length work
+  rest-length ys e = rw (length-append (take n work) (ys ++ drop (length work - n) (drop n work)), rest-nil, append-nil ys, length-take-le n work h) (omega arith)
+
+-- a part in the middle, m cells from n on, that comes back
+module _ (n m : ℕ) (work : List ℕ) (h : n + m ≤ length work) where
+  pub mid-is : take (n + m - n) (drop n work) ≡ take m (drop n work)
+  mid-is = let e : n + m - n ≡ m = omega arith in ap (λ (j : ℕ). take j (drop n work)) e
+
+  pub mid-part : length (take m (drop n work)) ≡ m
+  mid-part = length-take-le m (drop n work) (rw (length-drop n work) (omega arith))
+
+  pub mid-take : (ys : List ℕ) → take n (take n work ++ (ys ++ drop (n + m - n) (drop n work))) ≡ take n work
+  mid-take ys = take-at (take n work) _ n (length-take-le n work (omega arith))
+
+  pub mid-drop : (ys : List ℕ) → length ys ≡ m → take m (drop n (take n work ++ (ys ++ drop (n + m - n) (drop n work)))) ≡ ys
+  mid-drop ys e = ap (take m) (drop-at (take n work) _ n (length-take-le n work (omega arith))) ∙ take-at ys _ m e
+
+  pub mid-length : (ys : List ℕ) → length ys ≡ m → length (take n work ++ (ys ++ drop (n + m - n) (drop n work))) ≡ length work
+  mid-length ys e =
+      rw (length-append (take n work) (ys ++ drop (n + m - n) (drop n work)), length-append ys (drop (n + m - n) (drop n work)), length-drop (n + m - n) (drop n work), length-drop n work, length-take-le n work (omega arith))
+      (omega arith)

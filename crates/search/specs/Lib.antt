@@ -1,0 +1,4 @@
+pub mod Snoc
+pub mod Cells
+pub mod Search
+pub mod Paths
