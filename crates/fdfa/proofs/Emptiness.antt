@@ -57,19 +57,19 @@ some-letters v h e = let z : length v ≡ 0 = ap length e in omega arith
 
 module _ (F : Fdfa) (complete : Complete F) where
   -- an accepted and normalized lasso, by its walks alone
-  record Walks (u v : List ℕ) : Type 0 where
+  pub record Walks (u v : List ℕ) : Type 0 where
     pub lasso : Lasso (F .letters) u v
     pub back : walk (F .step) (walk (F .step) 0 u) v ≡ walk (F .step) 0 u
     pub ends : F .accepting (walk (F .step) 0 u) (walk (F .progress (walk (F .step) 0 u)) 0 v) ≡ true
 
-  walks : (u v : List ℕ) → Accepted F u v → Walks u v
+  pub walks : (u v : List ℕ) → Accepted F u v → Walks u v
   walks u v a = record {
     lasso = a .lasso;
     back = normalized-back F complete u v (a .lasso) (a .closes);
     ends = sym (normalized-accepts F u v (a .closes)) ∙ a .accepted;
   }
 
-  walked : (u v : List ℕ) → Walks u v → Accepted F u v
+  pub walked : (u v : List ℕ) → Walks u v → Accepted F u v
   walked u v w = record { lasso = w .lasso; closes = c; accepted = normalized-accepts F u v c ∙ w .ends }
     where
       c : Normalized F u v

@@ -32,7 +32,7 @@ module _ (F G : Fdfa) (alike : F .letters ≡ G .letters) (CF : Complete F) (CG 
   CP = product-complete butNot F G alike CF CG
 
   -- the counterexamples are the accepted and normalized lassos of that product
-  counterexample-accepted : (u v : List ℕ) → Counterexample F G u v → Accepted P u v
+  pub counterexample-accepted : (u v : List ℕ) → Counterexample F G u v → Accepted P u v
   counterexample-accepted u v c = record {
     lasso = c .lasso;
     closes = product-normalized butNot F G alike CF CG u v (c .lasso) (c .first-closes) (c .second-closes);
@@ -41,7 +41,7 @@ module _ (F G : Fdfa) (alike : F .letters ≡ G .letters) (CF : Complete F) (CG 
         ∙ both (accepts F u v) (not (accepts G u v)) (c .accepted) (not-of (accepts G u v) (c .rejected));
   }
 
-  accepted-counterexample : (u v : List ℕ) → Accepted P u v → Counterexample F G u v
+  pub accepted-counterexample : (u v : List ℕ) → Accepted P u v → Counterexample F G u v
   accepted-counterexample u v a = record {
     lasso = a .lasso;
     first-closes = n .0;
@@ -85,7 +85,7 @@ module _ (F G : Fdfa) (alike : F .letters ≡ G .letters) (CF : Complete F) (CG 
   counters-passes u v c =
       both _ _ (both _ _ (both _ _ (normalized-passes F u v (c .first-closes)) (normalized-passes G u v (c .second-closes))) (c .accepted)) (not-of _ (c .rejected))
 
-  widest-pair : (x : ℕ) → x < F .states * G .states → P .size x ≤ widest F * widest G
+  pub widest-pair : (x : ℕ) → x < F .states * G .states → P .size x ≤ widest F * widest G
   widest-pair x h =
       mul-le-mul (largest-le (F .states) (F .size) (x / G .states) (left-below (CG .start) h)) (largest-le (G .states) (G .size) (x % G .states) (mod-lt x (CG .start)))
 

@@ -96,7 +96,7 @@ module _ {s n : ℕ} {F : ℕ → ℕ → ℕ} {G : ℕ → ℕ → ℕ → ℕ}
   pair-run : (q : ℕ) → q < n → (v : Word) → Over s v → run (beside (K q) F (G q)) (q * K q) v ≡ run F q v * K q + run (G q) 0 v
   pair-run q h v o = ap (λ (x : ℕ). run (beside (K q) F (G q)) x v) (sym (add-zero (q * K q))) ∙ prod-run (Fam .leads) (Fam .progs q h) h (Fam .sizes q h) v o
 
-  prog-in : (q : ℕ) → q < n → (v : Word) → Over s v → run (G q) 0 v < K q
+  pub prog-in : (q : ℕ) → q < n → (v : Word) → Over s v → run (G q) 0 v < K q
   prog-in q h v o = run-within (Fam .progs q h) (Fam .sizes q h) v o
 
   loop-target : (Acc : ℕ → ℕ → Type 0) (q : ℕ) → q < n → (v : Word) → Loop F G Acc s q v → Target K Acc q (run (beside (K q) F (G q)) (q * K q) v)

@@ -10,3 +10,4 @@ pub mod Ends
 pub mod Work
 pub mod Places
 pub mod Reading
+pub mod Lassos

@@ -18,11 +18,6 @@ pub record Target (K : ℕ → ℕ) (Acc : ℕ → ℕ → Type 0) (q x : ℕ) :
 abbrev pub Room : ℕ → (ℕ → ℕ) → List ℕ → Type 0
 Room n K work = (q : ℕ) → q < n → n + n * K q ≤ length work
 
-pub record Leading (F : ℕ → ℕ → ℕ) (K : ℕ → ℕ) (s n : ℕ) (work : List ℕ) (reached head : ℕ) : Type 0 where
-  pub room : Room n K work
-  pub fits : n ≤ length work
-  pub leads : Search F 0 s 0 n (take n work) reached head 0
-
 pub record Outer (F : ℕ → ℕ → ℕ) (G : ℕ → ℕ → ℕ → ℕ) (K : ℕ → ℕ) (Acc : ℕ → ℕ → Type 0) (s n : ℕ) (work : List ℕ) (reached : ℕ) (p : ℕ) : Type 0 where
   pub room : Room n K work
   pub fits : n ≤ length work

@@ -15,51 +15,58 @@ use Rattle.fdfa.specs.Boolean.{beside}
 use Rattle.search.specs.Paths.{Searchable, Loop, Lasso, FirstAt}
 use Rattle.search.proofs.CellLaws.{flags-zeros}
 use Rattle.search.proofs.Expand.{index-lt, state-read, search-most}
-use Rattle.search.proofs.Phases.{Target, Room, Leading, Outer, Inner}
-use Rattle.search.proofs.Ends.{init, inner-none, inner-from, found, lead-state}
-use Rattle.search.proofs.Work.{root-cells, root-flags, root-marked, root-lit, zeros-marked, front-take, front-length, mid-is, mid-part, mid-take, mid-drop, mid-length}
+use Rattle.search.proofs.Phases.{Target, Room, Outer, Inner}
+use Rattle.search.proofs.Ends.{init, prog-in, inner-none, inner-from, found, lead-state}
+use Rattle.search.proofs.Work.{root-flags, root-marked, root-lit, zeros-marked, front-take, front-length, mid-is, mid-part, mid-take, mid-drop, mid-length}
+
+-- a search of as many cells, or with as many codes expanded
+pub sized : {f : ℕ → ℕ → ℕ} {root s lo N N′ : ℕ} {cells : List ℕ} {total head b : ℕ} → N ≡ N′ → Search f root s lo N cells total head b → Search f root s lo N′ cells total head b
+sized {f} {root} {s} {lo} {cells = cells} {total = total} {head = head} {b = b} e S = subst (λ (m : ℕ). Search f root s lo m cells total head b) e S
+
+pub headed : {f : ℕ → ℕ → ℕ} {root s lo N : ℕ} {cells : List ℕ} {total head head′ b : ℕ} → head ≡ head′ → Search f root s lo N cells total head b → Search f root s lo N cells total head′ b
+headed {f} {root} {s} {lo} {N} {cells} {total} {b = b} e S = subst (λ (h : ℕ). Search f root s lo N cells total h b) e S
+
+pub resized : {f : ℕ → ℕ → ℕ} {root s lo N N′ : ℕ} {cells : List ℕ} {total head : ℕ} {cells′ : List ℕ} {total′ : ℕ} → N ≡ N′ → Expanded f root s lo N cells total head cells′ total′
+    → Expanded f root s lo N′ cells total head cells′ total′
+resized {f} {root} {s} {lo} {cells = cells} {total = total} {head = head} {cells′ = cells′} {total′ = total′} e E =
+    subst (λ (m : ℕ). Expanded f root s lo m cells total head cells′ total′) e E
+
+-- all cells 0 but the root's flag: the root is found, and nothing is expanded
+pub roots : (f : ℕ → ℕ → ℕ) (s : ℕ) {N : ℕ} {cells : List ℕ} → 0 < N → cells ≡ replicate N 0 → Search f 0 s 0 (length (set cells 0 1)) (set cells 0 1) 1 0 0
+roots f s {N} {cells} h e =
+    let z : length (set (zeros N) 0 1) ≡ N = length-set (zeros N) 0 1 ∙ length-replicate {A = ℕ} N 0 in
+    rw e (rw z (init f 0 s 0 N (set (zeros N) 0 1) h z (omega arith) (root-flags N h) (root-marked N h) (λ e. root-lit N h)))
 
 module _ {s n : ℕ} {F : ℕ → ℕ → ℕ} {G : ℕ → ℕ → ℕ → ℕ} {K : ℕ → ℕ} (Fam : Searchable s n F G K) where
-  pub leading-start : (m : ℕ) {work : List ℕ} → n ≤ m → ((q : ℕ) → q < n → n + n * K q ≤ m) → work ≡ replicate m 0 → Leading F K s n (set work 0 1) 1 0
-  leading-start m {work} h r e =
-      let i : length (set (zeros m) 0 1) ≡ m = length-set (zeros m) 0 1 ∙ length-replicate {A = ℕ} m 0 in
-      rw e
-      (record {
-        room = λ q g. rw i (r q g);
-        fits = rw i h;
-        leads = rw (root-cells n m (Fam .some) h)
-            (init F 0 s 0 n (set (zeros n) 0 1) (Fam .some) (length-set (zeros n) 0 1 ∙ length-replicate {A = ℕ} n 0) (omega arith) (root-flags n (Fam .some)) (root-marked n (Fam .some)) (λ e. root-lit n (Fam .some)));
-      })
+  -- one more leading state has no accepted loop
+  next-state : {Acc : ℕ → ℕ → Type 0} {work : List ℕ} {reached p : ℕ} (O : Outer F G K Acc s n work reached p) → p < reached → ((v : Word) → Loop F G Acc s (stateAt 0 (take n work) p) v → ⊥)
+      → Outer F G K Acc s n work reached (p + 1)
+  next-state {Acc} {work} {p = p} O h none = record {
+    room = O .room;
+    fits = O .fits;
+    leads = O .leads;
+    upto = omega arith;
+    none = λ j l v t. by j (decLt j p) (omega arith) v t;
+  }
+    where
+      by : (j : ℕ) → Dec (j < p) → j ≤ p → (v : Word) → Loop F G Acc s (stateAt 0 (take n work) j) v → ⊥
+      by j (yes d) b v t = O .none j d v t
+      by j (no d) b v t =
+          let i : j ≡ p = omega arith in none v (subst (λ (y : ℕ). Loop F G Acc s y v) (ap (stateAt 0 (take n work)) i) t)
 
-  module _ {work : List ℕ} {reached head : ℕ} (L : Leading F K s n work reached head) where
-    pub leading-part : length (take n work) ≡ n
-    leading-part = length-take-le n work (L .fits)
-
-    pub leading-most : reached ≤ n
-    leading-most = omega (arith, search-most F 0 s 0 n (take n work) reached head (Fam .alphabet) 0 (L .leads))
-
-    pub leading-length : {ys : List ℕ} {r : ℕ} → Expanded F 0 s 0 n (take n work) reached head ys r → length (ys ++ drop n work) ≡ length work
-    leading-length {ys} E = front-length n work (L .fits) ys (E .search .size)
-
-    pub leading-more : {ys : List ℕ} {r : ℕ} → Expanded F 0 s 0 n (take n work) reached head ys r → Leading F K s n (ys ++ drop n work) r (head + 1)
-    leading-more {ys} {r} E =
-        let l = leading-length E in
-        record {
-          room = λ q g. rw l (L .room q g);
-          fits = rw l (L .fits);
-          leads = rw (front-take n work (L .fits) ys (E .search .size)) (E .search);
-        }
-
-    pub outer-start : {Acc : ℕ → ℕ → Type 0} → reached ≤ head → Outer F G K Acc s n work reached 0
-    outer-start h =
-        let e : head ≡ reached = omega (arith, L .leads .upto) in
-        record {
-          room = L .room;
-          fits = L .fits;
-          leads = subst (λ (j : ℕ). Search F 0 s 0 n (take n work) reached j 0) e (L .leads);
-          upto = omega arith;
-          none = λ j h. absurd (omega arith);
-        }
+  -- the search of the leading states is over
+  pub outer-begin : {Acc : ℕ → ℕ → Type 0} (work : List ℕ) {ys : List ℕ} {reached : ℕ} → n ≤ length work → Room n K work → Search F 0 s 0 (length (take n work)) ys reached reached 0
+      → Outer F G K Acc s n (ys ++ drop n work) reached 0
+  outer-begin work {ys} fits room S =
+      let e : length (take n work) ≡ n = length-take-le n work fits in
+      let l = front-length n work fits ys (S .size ∙ e) in
+      record {
+        room = λ q g. rw l (room q g);
+        fits = rw l fits;
+        leads = rw (front-take n work fits ys (S .size ∙ e)) (sized e S);
+        upto = omega arith;
+        none = λ j h. absurd (omega arith);
+      }
 
   module _ {Acc : ℕ → ℕ → Type 0} {work : List ℕ} {reached : ℕ} {p : ℕ} (O : Outer F G K Acc s n work reached p) where
     pub outer-part : length (take n work) ≡ n
@@ -70,6 +77,13 @@ module _ {s n : ℕ} {F : ℕ → ℕ → ℕ} {G : ℕ → ℕ → ℕ → ℕ}
 
     pub outer-in : {q : ℕ} → p < reached → q ≡ stateAt 0 (take n work) p → q < n
     outer-in h e = rw (e, lead-state Fam O p h) (O .leads .inside p h)
+
+    -- a leading state where no ending counts
+    pub outer-skip : {q : ℕ} → p < reached → q ≡ stateAt 0 (take n work) p → ((y : ℕ) → y < K q → Acc q y → ⊥) → Outer F G K Acc s n work reached (p + 1)
+    outer-skip {q} h e none = outer-next h (λ v L. none (run (G q) 0 v) (prog-in Fam q (outer-in h e) v (L .over)) (L .accepts)) e
+      where
+        outer-next : {q : ℕ} → p < reached → ((v : Word) → Loop F G Acc s q v → ⊥) → q ≡ stateAt 0 (take n work) p → Outer F G K Acc s n work reached (p + 1)
+        outer-next h none e = next-state O h (λ v L. none v (subst (λ (y : ℕ). Loop F G Acc s y v) (sym e) L))
 
     -- m cells behind the first n may change
     moves : (m : ℕ) → n + m ≤ length work → (ys : List ℕ) → length ys ≡ m → Outer F G K Acc s n (take n work ++ (ys ++ drop (n + m - n) (drop n work))) reached p
@@ -175,16 +189,4 @@ module _ {s n : ℕ} {F : ℕ → ℕ → ℕ} {G : ℕ → ℕ → ℕ → ℕ}
                   miss (omega arith) (subst (Target K Acc q) (ap (stateAt (q * K q) (take (n * K q) (drop n work))) i ∙ sym state-is) t)
 
     pub outer-more : total ≤ h → Outer F G K Acc s n work reached (p + 1)
-    outer-more g = record {
-      room = I .outer .room;
-      fits = I .outer .fits;
-      leads = I .outer .leads;
-      upto = omega (arith, I .here);
-      none = λ j l v t. by j (decLt j p) (omega arith) v t;
-    }
-      where
-        by : (j : ℕ) → Dec (j < p) → j ≤ p → (v : Word) → Loop F G Acc s (stateAt 0 (take n work) j) v → ⊥
-        by j (yes d) b v t = I .outer .none j d v t
-        by j (no d) b v t =
-            let i : j ≡ p = omega arith in
-            inner-none Fam I g v (subst (λ (y : ℕ). Loop F G Acc s y v) (ap (stateAt 0 (take n work)) i ∙ I .state) t)
+    outer-more g = next-state (I .outer) (I .here) (λ v L. inner-none Fam I g v (subst (λ (y : ℕ). Loop F G Acc s y v) (I .state) L))

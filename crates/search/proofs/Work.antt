@@ -16,15 +16,7 @@ zeros-getD zero x = refl
 zeros-getD (suc m) zero = refl
 zeros-getD (suc m) (suc x) = zeros-getD m x
 
-pub take-zeros : (n m : ℕ) → n ≤ m → take n (zeros m) ≡ zeros n
-take-zeros zero m h = refl
-take-zeros (suc n) zero h = absurd (not-suc-le-zero h)
-take-zeros (suc n) (suc m) h = ap (λ (l : List ℕ). 0 ∷ l) (take-zeros n m (le-of-suc-le-suc h))
-
 -- all cells 0 but the root's flag
-pub root-cells : (n m : ℕ) → 1 ≤ n → n ≤ m → take n (set (zeros m) 0 1) ≡ set (zeros n) 0 1
-root-cells n m h g = take-set-lt n (zeros m) 0 1 h ∙ ap (λ (l : List ℕ). set l 0 1) (take-zeros n m g)
-
 pub root-flags : (n : ℕ) → 1 ≤ n → flags (set (zeros n) 0 1) + 0 ≡ 1
 root-flags n h = omega (arith, flags-set (zeros n) 0 1 (rw (length-replicate {A = ℕ} n 0) h), flags-zeros n, zeros-getD n 0)
 

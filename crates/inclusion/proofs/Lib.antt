@@ -1,0 +1,7 @@
+pub mod Twins
+pub mod Targets
+pub mod Finding
+pub mod Telling
+pub mod Answering
+pub mod Comparing
+pub mod Nothing

@@ -1,0 +1,183 @@
+-- The sheet that accepts nothing is valid, and inclusion in it is emptiness. Assumes nothing.
+use mathlib.Core.Path.{_≡_, refl, ap, ap₂, sym, subst, subst₂, _∙_}
+use mathlib.Core.Bool.{Bool, true, false, not, _&&_}
+use mathlib.Core.List.{List, [], _∷_}
+use Prim.Native.Nat.{ℕ, zero, suc, _+_, _*_, _-_, _/_, _%_, _≤_, _<_}
+use native.Mathlib.Omega.{arith}
+use native.Mathlib.Nat.{mul-one, add-zero, not-suc-le-zero, le-of-suc-le-suc}
+use lib.Dec.{eqb}
+use lib.ListN.{length, getD, take, replicate, length-replicate}
+use Rattle.fdfa.specs.Words.{Over}
+use Rattle.fdfa.specs.Family.{Fdfa, Closed, Complete, walk, Lasso}
+use Rattle.fdfa.specs.Normalization.{Normalized}
+use Rattle.fdfa.specs.Acceptance.{accepts}
+use Rattle.fdfa.specs.Boolean.{beside, product}
+use Rattle.fdfa.specs.Enumeration.{Witness, absent, lasso}
+use Rattle.fdfa.specs.Inclusion.{First, Counterexample, Accepted, Answers, none-has, first-is, Counts, of-none, has-it, lacks-it, Reached, widest, largest, emptiness}
+use Rattle.fdfa.proofs.Words.{walk-closed}
+use Rattle.fdfa.proofs.Normal.{back-normalized, normalized-accepts}
+use Rattle.fdfa.proofs.Product.{beside-start}
+use Rattle.fdfa.proofs.Emptiness.{answers-unique, answers-map, emptiness-answers, empty-none}
+use Rattle.fdfa.proofs.Inclusion.{butNot, accepted-counterexample, counterexample-accepted}
+use Rattle.fdfa.proofs.Reach.{counts-unique, reached-states}
+use Rattle.packed.specs.Tables.{sum}
+use Rattle.packed.specs.Layout.{letterCount, stateCount, sizeOf, leadingAt, progressAt, marksAt, tableStep, decode, Valid}
+use Rattle.packed.proofs.Soundness.{valid-packable}
+use Rattle.search.proofs.Work.{zeros-getD}
+use Rattle.inclusion.specs.declared.Answer.{Answer}
+use Rattle.inclusion.specs.Answers.{emptyCells, MeetsEmpty}
+use Rattle.inclusion.specs.Tables.{nothingBytes, besideNothing, Twin, twin}
+use Rattle.inclusion.specs.Search.{Room}
+use Rattle.inclusion.proofs.Twins.{twin-is}
+use Rattle.inclusion.proofs.Telling.{Shows, shows-none, shows-first, shows-refusal}
+
+only : (q : ℕ) → q < 1 → q ≡ 0
+only q h = omega arith
+
+module _ (s : ℕ) where
+  abbrev N : List ℕ
+  N = nothingBytes s
+
+  cell : (x : ℕ) → 3 ≤ x → getD N x 0 ≡ 0
+  cell x h = let e : suc (suc (suc (x - 3))) ≡ x = omega arith in subst (λ (y : ℕ). getD N y 0 ≡ 0) e (zeros-getD (2 * s + 1) (x - 3))
+
+  behind : (q : ℕ) → 3 ≤ progressAt N q
+  unfolding progressAt
+  behind q = omega arith
+
+  whole : sizeOf N 0 ≡ 1
+  whole = refl
+
+  ends : progressAt N 1 ≡ 4 + 2 * s
+  unfolding progressAt sum
+  ends = omega arith
+
+  pub nothing-length : length N ≡ 4 + 2 * s
+  nothing-length = let e : length (replicate {A = ℕ} (2 * s + 1) 0) ≡ 2 * s + 1 = length-replicate {A = ℕ} (2 * s + 1) 0 in omega arith
+
+  one-state : (q : ℕ) → q < 1 → sizeOf N q ≡ 1
+  one-state q h = ap (sizeOf N) (only q h)
+
+  pub nothing-valid : 1 ≤ s → s ≤ 32 → Valid N
+  nothing-valid some few = record {
+    header = record {
+      long = omega (arith, nothing-length);
+      some-letters = some;
+      few-letters = few;
+      some-states = omega arith;
+      few-states = omega arith;
+      some-size = λ q h. omega (arith, one-state q h);
+      few-size = λ q h. omega (arith, one-state q h);
+    };
+    exact = nothing-length ∙ sym ends;
+    leads = λ q a h l. omega (arith, cell (leadingAt N + (q * s + a)) (omega arith));
+    progresses = λ q h p a l m. omega (arith, one-state q h, cell (progressAt N q + (p * s + a)) (omega (arith, behind q)));
+    marks = λ q p h l. omega (arith, cell (marksAt N q + p) (omega (arith, behind q)));
+  }
+
+  unmarked : (q p : ℕ) → decode N .accepting q p ≡ false
+  unmarked q p = ap (λ (x : ℕ). eqb x 1) (cell (marksAt N q + p) (omega (arith, behind q)))
+
+  pub nothing-widest : widest (decode N) ≡ 1
+  unfolding largest
+  nothing-widest = refl
+
+  -- as it is built
+  pub nothing-built : s ≤ 32 → take (4 + 2 * s) (s ∷ 1 ∷ 1 ∷ replicate 65 0) ≡ N
+  nothing-built few =
+      let e : 4 + 2 * s ≡ suc (suc (suc (2 * s + 1))) = omega arith in
+      ap (λ (k : ℕ). take k (s ∷ 1 ∷ 1 ∷ replicate 65 0)) e ∙ ap (λ (l : List ℕ). s ∷ 1 ∷ 1 ∷ l) (take-zeros (2 * s + 1) 65 (omega arith))
+    where
+      take-zeros : (n m : ℕ) → n ≤ m → take n (replicate {A = ℕ} m 0) ≡ replicate n 0
+      take-zeros zero m h = refl
+      take-zeros (suc n) zero h = absurd (not-suc-le-zero h)
+      take-zeros (suc n) (suc m) h = ap (λ (l : List ℕ). 0 ∷ l) (take-zeros n m (le-of-suc-le-suc h))
+
+-- the tables of a sheet beside it
+module _ (b : List ℕ) (valid : Valid b) where
+  pub empty-twin : {letters n : ℕ} {c : List ℕ} → letters ≡ letterCount b → n ≡ stateCount b → c ≡ nothingBytes letters
+      → Twin b c (record { first = 2 + n; second = 3; letters = letters; width = 1 }) n
+  empty-twin {letters} {n} el en ec =
+      subst (λ (x : List ℕ). Twin b x (record { first = 2 + n; second = 3; letters = letters; width = 1 }) n) (sym ec)
+      (record {
+        first-valid = valid;
+        second-valid = nothing-valid letters (omega (arith, el, valid .header .some-letters)) (omega (arith, el, valid .header .few-letters));
+        alike = sym el;
+        first-at = ap (λ (x : ℕ). 2 + x) en;
+        second-at = refl;
+        letters-are = el;
+        width-is = refl;
+        count-is = en ∙ sym (mul-one (stateCount b));
+      })
+
+  pub empty-room : {letters n : ℕ} {c : List ℕ} → n ≡ stateCount b → c ≡ nothingBytes letters → Room b c n (emptyCells b)
+  empty-room {letters} {n} {c} en ec =
+      ap (λ (x : List ℕ). n + n * (widest (decode b) * widest (decode x))) ec
+      ∙ (ap (λ (k : ℕ). n + n * (widest (decode b) * k)) (nothing-widest letters)
+      ∙ (ap (λ (k : ℕ). n + n * k) (mul-one (widest (decode b))) ∙ ap (λ (x : ℕ). x + x * widest (decode b)) en))
+
+  pub beside-nothing : {letters n : ℕ} {c : List ℕ} (el : letters ≡ letterCount b) (en : n ≡ stateCount b) (ec : c ≡ nothingBytes letters)
+      → twin b c (record { first = 2 + n; second = 3; letters = letters; width = 1 }) n ≡ besideNothing b
+  beside-nothing el en ec = twin-is (empty-twin el en ec) ∙ ap (λ (x : List ℕ). product butNot (decode b) (decode x)) (ec ∙ ap nothingBytes el)
+
+-- inclusion in it is emptiness
+module _ (F : Fdfa) (CF : Complete F) (some : 1 ≤ F .letters) (few : F .letters ≤ 32) where
+  abbrev G : Fdfa
+  G = decode (nothingBytes (F .letters))
+
+  CG : Complete G
+  CG = valid-packable (nothingBytes (F .letters)) (nothing-valid (F .letters) some few) .complete
+
+  at-start : {w : List ℕ} → Over (F .letters) w → {q : ℕ} → q < 1 → walk (G .step) q w ≡ 0
+  at-start o h = only _ (walk-closed (CG .leads) h o)
+
+  counter-accepted : (u v : List ℕ) → Counterexample F G u v → Accepted F u v
+  counter-accepted u v c = record { lasso = c .lasso; closes = c .first-closes; accepted = c .accepted }
+
+  accepted-counter : (u v : List ℕ) → Accepted F u v → Counterexample F G u v
+  accepted-counter u v a = record {
+    lasso = a .lasso;
+    first-closes = a .closes;
+    second-closes = closes;
+    accepted = a .accepted;
+    rejected = normalized-accepts G u v closes ∙ unmarked (F .letters) _ _;
+  }
+    where
+      closes : Normalized G u v
+      closes = back-normalized G CG u v (a .lasso) (at-start (a .lasso .period) (walk-closed (CG .leads) (omega arith) (a .lasso .prefix)) ∙ sym (at-start (a .lasso .prefix) (omega arith)))
+
+  pub empty-witness : {w : Witness} → Answers (Accepted (product butNot F G)) w → w ≡ emptiness F .witness
+  empty-witness a =
+      answers-unique
+      (answers-map counter-accepted accepted-counter (answers-map (accepted-counterexample F G refl CF CG) (counterexample-accepted F G refl CF CG) a))
+      (emptiness-answers F CF)
+
+  pair-reached : (w : List ℕ) → Over (F .letters) w → walk (beside 1 (F .step) (G .step)) 0 w ≡ walk (F .step) 0 w
+  pair-reached w o =
+      beside-start (F .step) (G .step) (omega arith) (CG .leads) o
+      ∙ (ap₂ (λ (x y : ℕ). x + y) (mul-one (walk (F .step) 0 w)) (at-start o (omega arith)) ∙ add-zero (walk (F .step) 0 w))
+
+  counts-map : {P Q : ℕ → Type 0} {m r : ℕ} → ((x : ℕ) → P x → Q x) → ((x : ℕ) → Q x → P x) → Counts P m r → Counts Q m r
+  counts-map to fro of-none = of-none
+  counts-map to fro (has-it {m = m} p c) = has-it (to m p) (counts-map to fro c)
+  counts-map to fro (lacks-it {m = m} n c) = lacks-it (λ q. n (fro m q)) (counts-map to fro c)
+
+  pub empty-reached : {r : ℕ} → Counts (Reached (F .letters) (beside 1 (F .step) (G .step))) (F .states * 1) r → r ≡ emptiness F .reached
+  empty-reached {r} c =
+      counts-unique
+      (counts-map
+      (λ x t. record { by = t .by; over = t .over; goes = sym (pair-reached (t .by) (t .over)) ∙ t .goes })
+      (λ x t. record { by = t .by; over = t .over; goes = pair-reached (t .by) (t .over) ∙ t .goes })
+      (subst (λ (m : ℕ). Counts (Reached (F .letters) (beside 1 (F .step) (G .step))) m r) (mul-one (F .states)) c))
+      (reached-states F CF)
+
+  first-of : {u v : List ℕ} → Answers (Accepted F) (lasso u v) → First (Accepted F) u v
+  first-of (first-is f) = f
+
+  counted : {r : ℕ} → r ≡ emptiness F .reached → Counts (Reached (F .letters) (F .step)) (F .states) r
+  counted e = subst (Counts (Reached (F .letters) (F .step)) (F .states)) (sym e) (reached-states F CF)
+
+  pub meets-empty : {o p : List ℕ} {r : Answer} → Shows (emptiness F .reached) (emptiness F .witness) o p r → MeetsEmpty F o p r
+  meets-empty (shows-none w e) = (counted e, empty-none F CF w)
+  meets-empty (shows-first w e a b) = (counted e, subst₂ (First (Accepted F)) (sym a) (sym b) (first-of (subst (Answers (Accepted F)) w (emptiness-answers F CF))))
+  meets-empty shows-refusal = tt

@@ -1,0 +1,87 @@
+-- `inclusion::progress_of` meets its contract. Assumes nothing.
+use mathlib.Core.Path.{_≡_, refl, ap, ap₂, sym, _∙_}
+use mathlib.Core.List.{List}
+use Prim.Native.Nat.{ℕ, _+_, _*_, _≤_, _<_}
+use native.Mathlib.Omega.{arith}
+use denote.Ref.{now}
+use lib.ListN.{length}
+use Rattle.packed.specs.Layout.{letterCount, stateCount, sizeOf, progressAt, Valid}
+use Rattle.packed.proofs.Bounds.{Body, body, few-both}
+use Rattle.inclusion.specs.declared.Progress.{Progress}
+use Rattle.inclusion.specs.Tables.{progressOf}
+use borrow.Author.Needs.{needs}
+use borrow.Author.Needs.{needs}
+use Rattle.inclusion.proofs.progress_of.Statement.{statement}
+use Rattle.inclusion.proofs.progress_of.Tie as tie
+
+abbrev start : tie.After-progress-at2 → tie.Start
+start c = c .before .before .before .before .before .before
+
+first-part : (c : tie.After-progress-at2) → Body (now (start c .args .first)) (start c .args .p) (c .before .progress-at .result) (c .before .before .before .size .result) (start c .args .letters)
+first-part c =
+    let s = start c .pre in
+    body _ (s .0 .0 .header) (s .0 .0 .exact) (s .1 .1 .0) (c .before .progress-at .ensures) (c .before .before .before .size .ensures) (s .1 .0 .0)
+
+second-part : (c : tie.After-progress-at2) → Body (now (start c .args .second)) (start c .args .q) (c .progress-at2 .result) (c .before .before .size2 .result) (start c .args .letters)
+second-part c =
+    let s = start c .pre in
+    body _ (s .0 .1 .header) (s .0 .1 .exact) (s .1 .1 .1) (c .progress-at2 .ensures) (c .before .before .size2 .ensures) (s .1 .0 .0 ∙ s .1 .0 .1)
+
+-- the record by its parts
+parts : (b d : List ℕ) (s p q : ℕ) {k l at behind : ℕ} → k ≡ sizeOf b p → l ≡ sizeOf d q → at ≡ progressAt b p → behind ≡ progressAt d q → s ≡ letterCount b → s ≡ letterCount d
+    → _≡_ {A = Progress} (record { tables = record { first = at; second = behind; letters = s; width = l }; accepting = at + k * s; rejecting = behind + l * s; size = k; count = k * l }) (progressOf b d s p q)
+parts b d s p q ek el ea eb es et = λ i. record {
+  tables = record { first = ea i; second = eb i; letters = s; width = el i };
+  accepting = ((λ j. ea j + ek j * s) ∙ ap (λ (x : ℕ). progressAt b p + sizeOf b p * x) es) i;
+  rejecting = ((λ j. eb j + el j * s) ∙ ap (λ (x : ℕ). progressAt d q + sizeOf d q * x) et) i;
+  size = ek i;
+  count = ek i * el i;
+}
+
+size-requires : tie.Need-size-requires
+size-requires c κs = let s = c .before .before .pre in omega (arith, s .0 .0 .header .long, s .1 .1 .0)
+
+size-requires-2 : tie.Need-size-requires-2
+size-requires-2 c κs = let s = c .before .before .before .pre in omega (arith, s .0 .1 .header .long, s .1 .1 .1)
+
+progress-at-requires : tie.Need-progress-at-requires
+progress-at-requires c κs = let s = c .before .before .before .before .pre in (s .0 .0 .header, omega (arith, s .1 .1 .0))
+
+progress-at-requires-2 : tie.Need-progress-at-requires-2
+progress-at-requires-2 c κs =
+    let s = c .before .before .before .before .before .pre in (s .0 .1 .header, omega (arith, s .1 .1 .1))
+
+mul-t11 : tie.Need-mul-t11
+mul-t11 c = omega (arith, first-part c .table)
+
+add-t12 : tie.Need-add-t12
+add-t12 c = omega (arith, first-part c .within, first-part c .low)
+
+mul-t13 : tie.Need-mul-t13
+mul-t13 c = omega (arith, second-part c .table)
+
+add-t14 : tie.Need-add-t14
+add-t14 c = omega (arith, second-part c .within, second-part c .low)
+
+mul-t15 : tie.Need-mul-t15
+mul-t15 c = omega (arith, few-both (first-part c .size) (second-part c .size))
+
+returns : tie.Need-returns
+returns c =
+    let s = start c .pre in
+    parts _ _ _ _ _ (c .before .before .before .size .ensures) (c .before .before .size2 .ensures) (c .before .progress-at .ensures) (c .progress-at2 .ensures) (s .1 .0 .0) (s .1 .0 .0 ∙ s .1 .0 .1)
+
+pub progress-of-spec : {M : Type 1} → statement M
+progress-of-spec =
+    tie.close
+    (tie.spec
+    size-requires
+    size-requires-2
+    progress-at-requires
+    progress-at-requires-2
+    mul-t11
+    add-t12
+    mul-t13
+    add-t14
+    mul-t15
+    returns)
