@@ -1,0 +1,69 @@
+-- `notation::numbers::number_at` meets its contract. Assumes nothing.
+use mathlib.Core.Path.{_≡_, ap, sym, _∙_}
+use mathlib.Core.Bool.{Bool}
+use Prim.Native.Nat.{ℕ, _+_}
+use native.Mathlib.Omega.{arith}
+use denote.Ref.{now}
+use lib.ListN.{getD}
+use Rattle.notation.specs.declared.Number.the-variants.{Good}
+use Rattle.notation.specs.Numerals.{runOf, valueOf, malformed}
+use Rattle.notation.proofs.Runs.{run-bound, run-digits, well-formed, number-none, number-bad, number-good}
+use borrow.Author.Needs.{needs}
+use borrow.Author.Needs.{needs}
+use Rattle.notation.proofs.numbers.number_at.Statement.{statement}
+use Rattle.notation.proofs.numbers.number_at.Tie as tie
+
+-- the test of the run, in the text's own terms
+test : (c : tie.After-is-malformed) → let s = c .before .before .before .before .before in malformed (runOf (now (s .args .text)) (s .args .at)) (getD (now (s .args .text)) (s .args .at) 0) ≡ c .is-malformed .result
+test c =
+    let s = c .before .before .before .before .before in
+    sym (ap (λ (r : ℕ). malformed r (getD (now (s .args .text)) (s .args .at) 0)) (c .before .before .run .ensures)) ∙ sym (c .is-malformed .ensures)
+
+returns : tie.Need-returns
+returns c = sym (number-none _ _ (c .if1 .taken))
+
+run-requires : tie.Need-run-requires
+run-requires c κs = search needs
+
+shared-slice-read-is-malformed : tie.Need-shared-slice-read-is-malformed
+shared-slice-read-is-malformed c = search needs
+
+is-malformed-requires : tie.Need-is-malformed-requires
+is-malformed-requires c κs = search needs
+
+returns-2 : tie.Need-returns-2
+returns-2 c =
+    let s = c .before .before .before .before .before .before in sym (number-bad (now (s .args .text)) (s .args .at) (c .before .before .before .before .if1 .left) (test (c .before) ∙ c .if2 .taken))
+
+value-requires : tie.Need-value-requires
+value-requires c κs =
+    let s = c .before .before .before .before .before .before in
+    let t = now (s .args .text) in
+    let e = c .before .before .before .run .ensures in
+    let w = well-formed (c .before .before .before .run .result) (getD t (s .args .at) 0) (sym (c .before .is-malformed .ensures) ∙ c .if2 .left) in
+    ((omega (arith, run-bound t (s .args .at) (omega (arith, c .before .before .before .before .if1 .left)), e), w .0, w .1), λ i h. run-digits t (s .args .at) i (omega (arith, e)))
+
+add-t10 : tie.Need-add-t10
+add-t10 c =
+    let s = c .before .before .before .before .before .before .before in omega (arith, run-bound (now (s .args .text)) (s .args .at) (omega (arith, c .before .before .before .before .before .if1 .left)), c .before .before .before .before .run .ensures)
+
+returns-3 : tie.Need-returns-3
+returns-3 c =
+    let s = c .before .before .before .before .before .before .before in
+    let t = now (s .args .text) in
+    let e = c .before .before .before .before .run .ensures in
+    (λ i. Good ((c .value .ensures ∙ ap (valueOf t (s .args .at)) e) i) (s .args .at + e i))
+    ∙ sym (number-good t (s .args .at) (c .before .before .before .before .before .if1 .left) (test (c .before .before) ∙ c .before .if2 .left))
+
+pub number-at-spec : {M : Type 1} → statement M
+number-at-spec =
+    tie.close
+    (tie.spec
+    returns
+    run-requires
+    shared-slice-read-is-malformed
+    is-malformed-requires
+    returns-2
+    value-requires
+    add-t10
+    returns-3)
