@@ -1,5 +1,6 @@
--- Families of automata over abstract step functions: a leading automaton F of n states, and at each of its states q a progress automaton G q of K q states
--- with the accepted states Acc q. Assumes nothing.
+-- Families of automata over abstract step functions: a leading automaton F of n states, and at each of its states q a
+-- progress automaton G q of K q states with the accepted states Acc q; and the words that the cells have for codes.
+-- Assumes nothing.
 use mathlib.Core.Path.{_≡_}
 use mathlib.Core.List.{List}
 use mathlib.Core.Logic.{_⊎_}
@@ -34,11 +35,6 @@ pub record Lasso (F : ℕ → ℕ → ℕ) (G : ℕ → ℕ → ℕ → ℕ) (Ac
 pub record First (P : Word → Word → Type 0) (u v : Word) : Type 0 where
   pub is : P u v
   pub least : (u′ v′ : Word) → P u′ v′ → (u ⊏ u′) ⊎ ((u ≡ u′) × (v ⊑ v′))
-
-pub record Reachable (F : ℕ → ℕ → ℕ) (s x : ℕ) : Type 0 where
-  pub by : Word
-  pub over : Over s by
-  pub goes : run F 0 by ≡ x
 
 -- the word of a code, read off the cells
 pub data Path (cells : List ℕ) : ℕ → Word → Type 0 where
