@@ -19,3 +19,4 @@ pub mod Accepting
 pub mod LinesStand
 pub mod RoundTrip
 pub mod Laws
+pub mod SheetB
