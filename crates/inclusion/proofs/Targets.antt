@@ -26,12 +26,6 @@ and-false-right true b e = e
 and-false-right false b e = refl
 
 module _ (b c : List ℕ) (g : Progress) where
-  first-mark : ℕ → Bool
-  first-mark y = eqb (getD b (g .accepting + y / g .tables .width) 0) 1
-
-  second-mark : ℕ → Bool
-  second-mark y = eqb (getD c (g .rejecting + y % g .tables .width) 0) 1
-
   module _ (q h x : ℕ) where
     pub target-root : h ≡ 0 → false ≡ target b c g q h x
     unfolding target

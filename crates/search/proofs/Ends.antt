@@ -6,6 +6,7 @@ use Prim.Native.Nat.{ℕ, zero, suc, _+_, _*_, _-_, _/_, _%_, _≤_, _<_}
 use native.Mathlib.Omega.{arith}
 use native.Mathlib.Decide.{decLt, ℕ-discrete}
 use native.Mathlib.Nat.{zero-add, add-zero, not-suc-le-zero}
+use lib.Arith.{digits-div, digits-mod}
 use lib.ListN.{length, getD, take, drop, replicate, length-drop}
 use lib.Seq.{getD-take}
 use Rattle.search.specs.Snoc.{Word, ε, _·_, _⊏_, _⊑_, short, front, last, same, less, run, Over, letters, ⊏-trans, ⊑⊏, ⊏⊑, ⊑-trans, grows, ⊑-snoc, ⊑-of-eq, ⊏-irrefl}
@@ -18,8 +19,8 @@ use Rattle.search.proofs.Theory.{Found, hit, ahead, key, first}
 use Rattle.search.proofs.Letters.{letters-over, walk-letters, word, word-over, run-word}
 use Rattle.fdfa.specs.Inclusion.{Counts, Reached}
 use Rattle.search.proofs.Counts.{counts}
-use Rattle.search.proofs.Expand.{index-lt, state-read, search-most}
-use Rattle.search.proofs.Product.{div-pair, mod-pair, prod-run, run-within}
+use Rattle.search.proofs.Expand.{state-read, search-most}
+use Rattle.search.proofs.Product.{prod-run, run-within}
 use Rattle.search.proofs.Phases.{Target, Outer, Inner}
 
 -- a search where nothing is expanded
@@ -104,8 +105,8 @@ module _ {s n : ℕ} {F : ℕ → ℕ → ℕ} {G : ℕ → ℕ → ℕ → ℕ}
       let e = pair-run q h v (L .over) in
       let i = prog-in q h v (L .over) in
       record {
-        back = ap (λ (x : ℕ). x / K q) e ∙ (div-pair (run F q v) (run (G q) 0 v) (K q) i ∙ L .back);
-        accepts = subst (Acc q) (sym (ap (λ (x : ℕ). x % K q) e ∙ mod-pair (run F q v) (run (G q) 0 v) (K q) i)) (L .accepts);
+        back = ap (λ (x : ℕ). x / K q) e ∙ (digits-div (run F q v) i ∙ L .back);
+        accepts = subst (Acc q) (sym (ap (λ (x : ℕ). x % K q) e ∙ digits-mod (run F q v) i)) (L .accepts);
       }
 
   target-loop : (Acc : ℕ → ℕ → Type 0) (q : ℕ) → q < n → (v : Word) → Over s v → (v ≡ ε → ⊥) → Target K Acc q (run (beside (K q) F (G q)) (q * K q) v) → Loop F G Acc s q v
@@ -115,8 +116,8 @@ module _ {s n : ℕ} {F : ℕ → ℕ → ℕ} {G : ℕ → ℕ → ℕ → ℕ}
       record {
         over = o;
         loops = ne;
-        back = sym (div-pair (run F q v) (run (G q) 0 v) (K q) i) ∙ (ap (λ (x : ℕ). x / K q) (sym e) ∙ T .back);
-        accepts = subst (Acc q) (ap (λ (x : ℕ). x % K q) e ∙ mod-pair (run F q v) (run (G q) 0 v) (K q) i) (T .accepts);
+        back = sym (digits-div (run F q v) i) ∙ (ap (λ (x : ℕ). x / K q) (sym e) ∙ T .back);
+        accepts = subst (Acc q) (ap (λ (x : ℕ). x % K q) e ∙ digits-mod (run F q v) i) (T .accepts);
       }
 
 module _ {s n : ℕ} {F : ℕ → ℕ → ℕ} {G : ℕ → ℕ → ℕ → ℕ} {K : ℕ → ℕ} (Fam : Searchable s n F G K) {Acc : ℕ → ℕ → Type 0} {work : List ℕ} {reached : ℕ} where

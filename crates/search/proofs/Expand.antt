@@ -15,9 +15,6 @@ use Rattle.search.specs.Search.{Hit, Entry, Search, Expanded}
 use Rattle.search.proofs.CellLaws.{flags-below, flags-most, entry-flagged, entry-queued-other}
 use Rattle.search.proofs.Steps.{After, step}
 
-pub index-lt : (n s x a : ℕ) → x < n → a < s → x * s + a < n * s
-index-lt n s x a h k = lt-of-lt-of-le {m = suc x * s} (rw (suc-mul x s) (omega arith)) (mul-le-mul-right s h)
-
 pub discovered-up : {cells cells′ : List ℕ} {total total′ x e : ℕ} → Discovered cells total x e cells′ total′ → total ≤ total′
 discovered-up (seen on) = omega arith
 discovered-up (fresh off) = omega arith

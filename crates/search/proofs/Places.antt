@@ -6,6 +6,7 @@ use Prim.Native.Nat.{ℕ, zero, suc, _+_, _*_, _-_, _/_, _%_, _≤_, _<_}
 use native.Mathlib.Omega.{arith}
 use native.Mathlib.Decide.{decLt, ℕ-discrete}
 use native.Mathlib.Nat.{add-zero, mod-lt}
+use lib.Arith.{digits-lt}
 use lib.ListN.{length, getD, take, drop, set, replicate, length-set, length-replicate, length-drop}
 use lib.Seq.{length-take-le}
 use Rattle.search.specs.Snoc.{Word, run}
@@ -14,7 +15,7 @@ use Rattle.search.specs.Search.{Search, Expanded}
 use Rattle.fdfa.specs.Boolean.{beside}
 use Rattle.search.specs.Paths.{Searchable, Loop, Lasso, FirstAt}
 use Rattle.search.proofs.CellLaws.{flags-zeros}
-use Rattle.search.proofs.Expand.{index-lt, state-read, search-most}
+use Rattle.search.proofs.Expand.{state-read, search-most}
 use Rattle.search.proofs.Phases.{Target, Room, Outer, Inner}
 use Rattle.search.proofs.Ends.{init, prog-in, inner-none, inner-from, found, lead-state}
 use Rattle.search.proofs.Work.{root-flags, root-marked, root-lit, zeros-marked, front-take, front-length, mid-is, mid-part, mid-take, mid-drop, mid-length}
@@ -115,7 +116,7 @@ module _ {s n : ℕ} {F : ℕ → ℕ → ℕ} {G : ℕ → ℕ → ℕ → ℕ}
         let y : ys ≡ zeros (n * k) = start-length h e ke z in
         let l : length ys ≡ n * k = ap length y ∙ length-replicate {A = ℕ} (n * k) 0 in
         let i : q < n = outer-in h e in
-        let r : q * K q < n * K q = rw (add-zero (q * K q)) at (index-lt n (K q) q 0 i (Fam .sizes q i)) in
+        let r : q * K q < n * K q = rw (add-zero (q * K q)) at (digits-lt i (Fam .sizes q i)) in
         record {
           outer = moves (n * k) g ys l;
           here = h;
@@ -131,9 +132,6 @@ module _ {s n : ℕ} {F : ℕ → ℕ → ℕ} {G : ℕ → ℕ → ℕ → ℕ}
 
     pub inner-small : n * K q ≤ 1048576
     inner-small = Fam .fewer q (inner-from Fam I)
-
-    pub inner-root : q * K q < n * K q
-    inner-root = rw (add-zero (q * K q)) at (index-lt n (K q) q 0 (inner-from Fam I) (Fam .sizes q (inner-from Fam I)))
 
     -- as the code has it: with its own k and g, and the part that it lends
     module _ {k : ℕ} (ke : K q ≡ k) where

@@ -44,19 +44,6 @@ module _ (n : ℕ) (work : List ℕ) (h : n ≤ length work) where
   pub front-length : (ys : List ℕ) → length ys ≡ n → length (ys ++ drop n work) ≡ length work
   front-length ys e = rw (length-append ys (drop n work), length-drop n work) (omega arith)
 
-  -- the rest comes back
-  rest-nil : drop (length work - n) (drop n work) ≡ []
-  rest-nil = drop-of-length-le (drop n work) {i = length work - n} (rw (length-drop n work) (omega arith))
-
-  pub rest-take : (ys : List ℕ) → take n (take n work ++ (ys ++ drop (length work - n) (drop n work))) ≡ take n work
-  rest-take ys = take-at (take n work) _ n (length-take-le n work h)
-
-  pub rest-drop : (ys : List ℕ) → drop n (take n work ++ (ys ++ drop (length work - n) (drop n work))) ≡ ys
-  rest-drop ys = drop-at (take n work) _ n (length-take-le n work h) ∙ (ap (λ (l : List ℕ). ys ++ l) rest-nil ∙ append-nil ys)
-
-  pub rest-length : (ys : List ℕ) → length ys ≡ length work - n → length (take n work ++ (ys ++ drop (length work - n) (drop n work))) ≡ length work
-  rest-length ys e = rw (length-append (take n work) (ys ++ drop (length work - n) (drop n work)), rest-nil, append-nil ys, length-take-le n work h) (omega arith)
-
 -- a part in the middle, m cells from n on, that comes back
 module _ (n m : ℕ) (work : List ℕ) (h : n + m ≤ length work) where
   pub mid-is : take (n + m - n) (drop n work) ≡ take m (drop n work)
