@@ -1,0 +1,50 @@
+-- `players::compare_numbers` meets its contract. Assumes nothing.
+use mathlib.Core.Path.{_≡_, ap, sym, _∙_}
+use mathlib.Core.List.{List, [], _∷_}
+use Prim.Native.Nat.{ℕ}
+use Rattle.inclusion.specs.declared.Answer.{Answer}
+use Rattle.inclusion.specs.Answers.{saysOf}
+use Rattle.players.specs.Layout.{compareNumbers}
+use borrow.Author.Needs.{needs}
+use Rattle.players.proofs.compare_numbers.Statement.{statement}
+use Rattle.players.proofs.compare_numbers.Tie as tie
+
+enum-known-answer : tie.Need-enum-known-answer
+enum-known-answer c = search needs
+
+enum-known-answer-2 : tie.Need-enum-known-answer-2
+enum-known-answer-2 c = search needs
+
+enum-known-answer-3 : tie.Need-enum-known-answer-3
+enum-known-answer-3 c = search needs
+
+cast-t13 : tie.Need-cast-t13
+cast-t13 c = search needs
+
+part-number-requires : tie.Need-part-number-requires
+part-number-requires c κs = search needs
+
+returns : tie.Need-returns
+returns c = ap (λ (a : Answer). compareNumbers (saysOf a)) (sym (c .before .answer .given .1))
+
+returns-2 : tie.Need-returns-2
+returns-2 c = ap (λ (a : Answer). compareNumbers (saysOf a)) (sym (c .before .answer2 .given .1))
+
+returns-3 : tie.Need-returns-3
+returns-3 c =
+    let r = c .before .before .before .answer3 .given .0 .0 in
+    ap (λ (p : ℕ). r .number ∷ p ∷ r .place ∷ 0 ∷ 0 ∷ 0 ∷ 0 ∷ 0 ∷ 0 ∷ []) (c .part-number .ensures)
+    ∙ ap (λ (a : Answer). compareNumbers (saysOf a)) (sym (c .before .before .before .answer3 .given .1))
+
+pub compare-numbers-spec : {M : Type 1} → statement M
+compare-numbers-spec =
+    tie.close
+    (tie.spec
+    enum-known-answer
+    enum-known-answer-2
+    enum-known-answer-3
+    cast-t13
+    part-number-requires
+    returns
+    returns-2
+    returns-3)

@@ -1,0 +1,46 @@
+-- `players::verdict_numbers` meets its contract. Assumes nothing.
+use mathlib.Core.Path.{_≡_, ap, sym, _∙_}
+use mathlib.Core.List.{List, [], _∷_}
+use Prim.Native.Nat.{ℕ}
+use Rattle.membership.specs.declared.Judgement.{Judgement}
+use Rattle.membership.specs.Verdict.{saysOf}
+use Rattle.players.specs.Layout.{verdictNumbers}
+use borrow.Author.Needs.{needs}
+use Rattle.players.proofs.verdict_numbers.Statement.{statement}
+use Rattle.players.proofs.verdict_numbers.Tie as tie
+
+enum-known-judgement : tie.Need-enum-known-judgement
+enum-known-judgement c = search needs
+
+cast-t10 : tie.Need-cast-t10
+cast-t10 c = search needs
+
+enum-known-judgement-2 : tie.Need-enum-known-judgement-2
+enum-known-judgement-2 c = search needs
+
+cast-t15 : tie.Need-cast-t15
+cast-t15 c = search needs
+
+part-number-requires : tie.Need-part-number-requires
+part-number-requires c κs = search needs
+
+returns : tie.Need-returns
+returns c = ap (λ (j : Judgement). verdictNumbers (saysOf j)) (sym (c .before .judgement .given .1))
+
+returns-2 : tie.Need-returns-2
+returns-2 c =
+    let r = c .before .before .before .judgement2 .given .0 .0 in
+    ap (λ (p : ℕ). r .number ∷ p ∷ r .place ∷ 0 ∷ 0 ∷ 0 ∷ []) (c .part-number .ensures)
+    ∙ ap (λ (j : Judgement). verdictNumbers (saysOf j)) (sym (c .before .before .before .judgement2 .given .1))
+
+pub verdict-numbers-spec : {M : Type 1} → statement M
+verdict-numbers-spec =
+    tie.close
+    (tie.spec
+    enum-known-judgement
+    cast-t10
+    enum-known-judgement-2
+    cast-t15
+    part-number-requires
+    returns
+    returns-2)

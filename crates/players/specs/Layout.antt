@@ -1,0 +1,50 @@
+-- The answer slice of the players' calls (docs/ANSWER.md): numbers of 8 bytes each, low byte first. Assumes nothing.
+use mathlib.Core.Path.{_≡_}
+use mathlib.Core.Bool.{Bool, true, false, cond}
+use mathlib.Core.List.{List, [], _∷_}
+use Prim.Native.Nat.{ℕ, _/_, _%_, _^_}
+use lib.Dec.{ltb}
+use lib.ListN.{length, getD}
+use Rattle.fdfa.specs.declared.Part.{Part}
+use Rattle.fdfa.specs.declared.Part.the-variants.{First, Second, Opening, Loop, Out, Work, Cursor}
+use Rattle.fdfa.specs.Acceptance.{Verdict}
+use Rattle.fdfa.specs.Refusals.{Result, given, refused}
+use Rattle.fdfa.specs.Slices.{written}
+use Rattle.packed.specs.Tables.{tab, rows}
+use Rattle.packed.specs.Layout.{mark}
+use Rattle.inclusion.specs.Answers.{Said}
+
+abbrev pub numberBytes : ℕ → List ℕ
+numberBytes x = tab 8 (λ i. x / 256 ^ i % 256)
+
+abbrev pub layout : List ℕ → List ℕ
+layout ns = rows (length ns) (λ k. numberBytes (getD ns k 0))
+
+abbrev pub partNumber : Part → ℕ
+partNumber First = 0
+partNumber Second = 1
+partNumber Opening = 2
+partNumber Loop = 3
+partNumber Out = 4
+partNumber Work = 5
+partNumber Cursor = 6
+
+-- 0, accepted 1 or rejected 0, i, j, the leading state, the progress state; or number, part, place of the refusal.
+abbrev pub verdictNumbers : Result Verdict → List ℕ
+verdictNumbers (given v) = 0 ∷ mark (v .accepted) ∷ v .i ∷ v .j ∷ v .place ∷ v .end ∷ []
+verdictNumbers (refused r) = r .number ∷ partNumber (r .part) ∷ r .place ∷ 0 ∷ 0 ∷ 0 ∷ []
+
+-- 0, contained 0 or missing 1, R, the lengths of opening and loop, four zeros; or number, part, place of the refusal.
+abbrev pub compareNumbers : Result Said → List ℕ
+compareNumbers (given s) =
+    0 ∷ cond (s .none) 0 1 ∷ s .record-of .reached ∷ s .record-of .prefix ∷ s .record-of .period ∷ 0 ∷ 0 ∷ 0 ∷ 0 ∷ []
+compareNumbers (refused r) = r .number ∷ partNumber (r .part) ∷ r .place ∷ 0 ∷ 0 ∷ 0 ∷ 0 ∷ 0 ∷ 0 ∷ []
+
+-- Where the answer slice has fewer cells than are needed nothing changes.
+abbrev pub unlessShort : {A : Type 0} → ℕ → List ℕ → A → A → A
+unlessShort need answer old new = cond (ltb (length answer) need) old new
+
+-- What a call returns and leaves in the answer slice: the numbers, and behind them what was there.
+pub record Told (need : ℕ) (numbers answer answer′ : List ℕ) (r : ℕ) : Type 0 where
+  pub returned : r ≡ unlessShort need answer 0 1
+  pub cells : answer′ ≡ unlessShort need answer answer (written (layout numbers) answer)

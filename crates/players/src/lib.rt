@@ -1,0 +1,163 @@
+// The calls for players in C: the verdict and the comparison over byte slices, the answer as numbers in one more lent slice.
+use fdfa::Part;
+use inclusion::Answer;
+use membership::Judgement;
+ghost use mathlib.Core.Path.{_≡_};
+ghost use Prim.Native.Nat.{_*_, _≤_};
+ghost use lib.ListN.{length};
+ghost use Rattle.fdfa.specs.Slices.{written};
+ghost use Rattle.membership.specs.Verdict.{judged};
+ghost use Rattle.membership.specs.Verdict.{saysOf as judgementSays};
+ghost use Rattle.inclusion.specs.Answers.{saysOf as answerSays};
+ghost use Rattle.players.specs.Layout.{partNumber, numberBytes, layout, verdictNumbers, compareNumbers, Told};
+ghost use Rattle.players.specs.Calls.{Compared};
+
+fn part_number(part: Part) -> u64
+    ensures { λ r. ⌜ r ≡ partNumber part ⌝ }
+{
+    match part {
+        Part::First => 0,
+        Part::Second => 1,
+        Part::Opening => 2,
+        Part::Loop => 3,
+        Part::Out => 4,
+        Part::Work => 5,
+        Part::Cursor => 6,
+    }
+}
+
+fn verdict_numbers(judgement: Judgement) -> [u64; 6]
+    ensures { λ r. ⌜ r ≡ verdictNumbers (judgementSays judgement) ⌝ }
+{
+    match judgement {
+        Judgement::Given {
+            accepted,
+            i,
+            j,
+            place,
+            end,
+        } => [
+            0,
+            accepted as u64,
+            i as u64,
+            j as u64,
+            place as u64,
+            end as u64,
+        ],
+        Judgement::Refused(r) => {
+            let part = r.part;
+            [r.number as u64, part_number(part), r.place as u64, 0, 0, 0]
+        }
+    }
+}
+
+fn compare_numbers(answer: Answer) -> [u64; 9]
+    ensures { λ r. ⌜ r ≡ compareNumbers (answerSays answer) ⌝ }
+{
+    match answer {
+        Answer::Absent(c) => [
+            0,
+            0,
+            c.reached as u64,
+            c.prefix as u64,
+            c.period as u64,
+            0,
+            0,
+            0,
+            0,
+        ],
+        Answer::Found(c) => [
+            0,
+            1,
+            c.reached as u64,
+            c.prefix as u64,
+            c.period as u64,
+            0,
+            0,
+            0,
+            0,
+        ],
+        Answer::Refused(r) => {
+            let part = r.part;
+            [
+                r.number as u64,
+                part_number(part),
+                r.place as u64,
+                0,
+                0,
+                0,
+                0,
+                0,
+                0,
+            ]
+        }
+    }
+}
+
+// Writes a number's 8 bytes, low byte first.
+fn put_number(x: u64, out: &mut [u8])
+    requires { ⌜ 8 ≤ length (now out) ⌝ }
+    ensures { λ _. ⌜ now (out .exit) ≡ written (numberBytes x) (now (out .entry)) ⌝ }
+{
+    let mut rest = x;
+    let mut i = 0;
+    while i < 8 {
+        out[i] = (rest % 256) as u8;
+        rest /= 256;
+        i += 1;
+    }
+}
+
+// Writes numbers one after the other.
+fn put_numbers(numbers: &[u64], out: &mut [u8])
+    requires { ⌜ 8 * length (now numbers) ≤ length (now out) ⌝ }
+    ensures { λ _. ⌜ now (out .exit) ≡ written (layout (now (numbers .entry))) (now (out .entry)) ⌝ }
+{
+    let mut k = 0;
+    while k < numbers.len() {
+        let at = 8 * k;
+        put_number(numbers[k], &mut out[at..]);
+        k += 1;
+    }
+}
+
+// The verdict on a show (opening, loop). Answers 0, and writes nothing, where the answer slice is too short; else 1.
+#[no_mangle]
+pub extern "C" fn fdfa_verdict(
+    sheet: &[u8],
+    opening: &[u8],
+    period: &[u8],
+    answer: &mut [u8],
+) -> u32
+    ensures { λ r. ⌜ Told 48 (verdictNumbers (judged (now (sheet .entry)) (now (opening .entry)) (now (period .entry)))) (now (answer .entry)) (now (answer .exit)) r ⌝ }
+{
+    if answer.len() < 48 {
+        return 0;
+    }
+    let judgement = membership::verdict(sheet, opening, period);
+    let numbers = verdict_numbers(judgement);
+    put_numbers(&numbers, answer);
+    1
+}
+
+// The comparison of two sheets with 8,192 cells of its own; the first counter-show goes to `opening` and `period`. Answers
+// 0, and writes nothing, where the answer slice is too short; else 1.
+#[no_mangle]
+pub extern "C" fn fdfa_compare(
+    first: &[u8],
+    second: &[u8],
+    opening: &mut [u8],
+    period: &mut [u8],
+    answer: &mut [u8],
+) -> u32
+    ensures { λ r. ⌜ Compared (now (first .entry)) (now (second .entry)) (now (opening .entry)) (now (period .entry)) (now (answer .entry)) (now (opening .exit)) (now (period .exit)) (now (answer .exit)) r ⌝ }
+{
+    if answer.len() < 72 {
+        return 0;
+    }
+    let mut work = [0u64; 8192];
+    let compared = inclusion::compare(first, second, opening, period, &mut work);
+    let numbers = compare_numbers(compared);
+    put_numbers(&numbers, answer);
+    1
+}
