@@ -10,7 +10,7 @@ use Rattle.fdfa.specs.Acceptance.{loopState, endState, accepts, Verdict,
 use Rattle.fdfa.proofs.Words.{over-append, over-turns, walk-closed}
 use Rattle.fdfa.proofs.Normal.{inside}
 
-walk-same : {s n : ℕ} {f g : ℕ → ℕ → ℕ} → Closed s n f → ((q a : ℕ) → q < n → a < s → f q a ≡ g q a) → (q : ℕ) → q < n → {w : List ℕ} → Over s w → walk f q w ≡ walk g q w
+pub walk-same : {s n : ℕ} {f g : ℕ → ℕ → ℕ} → Closed s n f → ((q a : ℕ) → q < n → a < s → f q a ≡ g q a) → (q : ℕ) → q < n → {w : List ℕ} → Over s w → walk f q w ≡ walk g q w
 walk-same c e q h done = refl
 walk-same {f = f} {g = g} c e q h (below {a = a} {w = w} l o) =
     walk-same c e (f q a) (c q a h l) o ∙ ap (λ (x : ℕ). walk g x w) (e q a h l)

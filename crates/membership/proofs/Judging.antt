@@ -76,7 +76,7 @@ module _ (b u v : List ℕ) where
       ∙ (passed _ (when-passes 8 Loop 0 (ne-eqb (length v) 0 (some-letters (lasso .loops)))) ∙ over-word Loop (letterCount b) v (lasso .period)))
 
   -- the numbers that the walk finds are the verdict's
-  pub verdict-found : {i j place end : ℕ} {accepted : Bool} → Closing b v (walk (tableStep b (leadingAt b) (letterCount b)) 0 u) i j place → Ends b v place j end accepted
+  pub verdict-found : {i j place end : ℕ} {accepted : Bool} → Closing b u v i j place → Ends b v place j end accepted
       → _≡_ {A = Verdict} (record { accepted = accepted; i = i; j = j; place = place; end = end }) (verdict (decode b) u v)
   verdict-found {i} {j} {place} {end} {accepted} c d = λ k. record {
     accepted = (d .says ∙ (λ m. decode b .accepting (p m) (e m))) k;

@@ -40,11 +40,15 @@ abbrev pub checkSays : Checked → Result Sizes
 checkSays (checked.Lasso z) = given z
 checkSays (checked.Refused r) = refused r
 
--- What turning the period from a leading state finds: the first state that was there before.
-pub record Closing (b v : List ℕ) (q i j place : ℕ) : Type 0 where
-  pub preperiod : i ≡ returning (stateCount b) (λ t. walk (tableStep b (leadingAt b) (letterCount b)) q (turns v t))
-  pub period : j ≡ returnFrom (stateCount b) (λ t. walk (tableStep b (leadingAt b) (letterCount b)) q (turns v t)) i
-  pub at : place ≡ walk (tableStep b (leadingAt b) (letterCount b)) q (turns v i)
+-- The leading states after the prefix and 0, 1, .. turns.
+abbrev pub turning : List ℕ → List ℕ → List ℕ → ℕ → ℕ
+turning b u v t = walk (tableStep b (leadingAt b) (letterCount b)) (walk (tableStep b (leadingAt b) (letterCount b)) 0 u) (turns v t)
+
+-- What turning the period after the prefix finds: the first leading state that was there before.
+pub record Closing (b u v : List ℕ) (i j place : ℕ) : Type 0 where
+  pub preperiod : i ≡ returning (stateCount b) (turning b u v)
+  pub period : j ≡ returnFrom (stateCount b) (turning b u v) i
+  pub at : place ≡ turning b u v i
 
 -- What the progress automaton of q says after `count` turns.
 pub record Ends (b v : List ℕ) (q count end : ℕ) (accepted : Bool) : Type 0 where

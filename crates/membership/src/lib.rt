@@ -6,6 +6,7 @@ use packed::Validity;
 ghost use mathlib.Core.Path.{_≡_};
 ghost use Prim.Native.Nat.{_<_};
 ghost use Rattle.fdfa.specs.Words.{Over};
+ghost use Rattle.fdfa.specs.Family.{Lasso};
 ghost use Rattle.fdfa.specs.Refusals.{unless};
 ghost use Rattle.packed.specs.Layout.{letterCount, stateCount, leadingAt, Valid};
 ghost use Rattle.packed.specs.Faults.{sizesOf};
@@ -63,14 +64,14 @@ pub fn check(sheet: &[u8], prefix: &[u8], period: &[u8]) -> Checked
         Validity::Refused(r) => Checked::Refused(r),
         Validity::Valid(sizes) => {
             let s = sizes.letters;
-            let i = packed::first_outside(prefix, 0, s, 0, prefix.len());
+            let i = packed::first_unknown(prefix, s);
             if i < prefix.len() {
                 return refuse(9, Part::Opening, i);
             }
             if period.len() == 0 {
                 return refuse(8, Part::Loop, 0);
             }
-            let j = packed::first_outside(period, 0, s, 0, period.len());
+            let j = packed::first_unknown(period, s);
             if j < period.len() {
                 return refuse(9, Part::Loop, j);
             }
@@ -79,19 +80,27 @@ pub fn check(sheet: &[u8], prefix: &[u8], period: &[u8]) -> Checked
     }
 }
 
-// Turns the period from a leading state until a state comes again. `seen` has, for each state, one more than the turns
-// after which it was first there.
-fn normalize(sheet: &[u8], at: usize, letters: usize, start: usize, period: &[u8]) -> Normalized
-    requires { ⌜ Valid (now sheet) × Over (letterCount (now sheet)) (now period) × (start < stateCount (now sheet)) ⌝ }
-    requires { ⌜ (at ≡ leadingAt (now sheet)) × (letters ≡ letterCount (now sheet)) ⌝ }
-    ensures { λ r. ⌜ Closing (now (sheet .entry)) (now (period .entry)) start (r .i) (r .j) (r .place) ⌝ }
+// Turns the period from the leading state after the prefix until a state comes again. `seen` has, for each state, one more
+// than the turns after which it was first there.
+fn normalize(
+    sheet: &[u8],
+    at: usize,
+    letters: usize,
+    states: usize,
+    prefix: &[u8],
+    period: &[u8],
+) -> Normalized
+    requires { ⌜ Valid (now sheet) × Lasso (letterCount (now sheet)) (now prefix) (now period) ⌝ }
+    requires { ⌜ (at ≡ leadingAt (now sheet)) × (letters ≡ letterCount (now sheet)) × (states ≡ stateCount (now sheet)) ⌝ }
+    ensures { λ r. ⌜ Closing (now (sheet .entry)) (now (prefix .entry)) (now (period .entry)) (r .i) (r .j) (r .place) ⌝ }
 {
+    let table = packed::columns(sheet, at, letters, states);
     let mut seen = [0usize; 32];
-    let mut q = start;
+    let mut q = packed::walk(&table, 0, prefix);
     let mut t = 0;
     while seen[q] == 0 {
         seen[q] = t + 1;
-        q = packed::walk(sheet, at, letters, q, period);
+        q = packed::walk(&table, q, period);
         t += 1;
     }
     let i = seen[q] - 1;
@@ -109,13 +118,15 @@ fn progress(sheet: &[u8], letters: usize, q: usize, period: &[u8], count: usize)
     ensures { λ r. ⌜ Ends (now (sheet .entry)) (now (period .entry)) q count (r .end) (r .accepted) ⌝ }
 {
     let at = packed::progress_at(sheet, q);
+    let k = packed::size(sheet, q);
+    let table = packed::columns(sheet, at, letters, k);
     let mut end = 0;
     let mut t = 0;
     while t < count {
-        end = packed::walk(sheet, at, letters, end, period);
+        end = packed::walk(&table, end, period);
         t += 1;
     }
-    let marks = at + packed::size(sheet, q) * letters;
+    let marks = at + k * letters;
     Ended {
         end,
         accepted: packed::is_marked(sheet, marks, end),
@@ -147,9 +158,7 @@ pub fn verdict(sheet: &[u8], prefix: &[u8], period: &[u8]) -> Judgement
         return refused(checked);
     };
     let s = sizes.letters;
-    let at = 2 + sizes.states;
-    let start = packed::walk(sheet, at, s, 0, prefix);
-    let n = normalize(sheet, at, s, start, period);
+    let n = normalize(sheet, 2 + sizes.states, s, sizes.states, prefix, period);
     let ended = progress(sheet, s, n.place, period, n.j);
     Judgement::Given {
         accepted: ended.accepted,

@@ -5,8 +5,8 @@ use mathlib.Core.List.{List, [], _∷_, _++_}
 use mathlib.Core.Path.{_≡_}
 use Prim.Native.Nat.{ℕ, zero, suc, _+_, _*_, _≤_, _<_}
 use lib.Dec.{eqb}
-use lib.ListN.{length, getD, take}
-use Rattle.fdfa.specs.Family.{Fdfa, Closed, Complete, walk}
+use lib.ListN.{length, getD}
+use Rattle.fdfa.specs.Family.{Fdfa, Closed, Complete}
 use Rattle.packed.specs.Tables.{tab, rows, sum}
 
 -- What stands where.
@@ -92,7 +92,3 @@ pub record Valid (b : List ℕ) : Type 0 where
   pub leads : Closed (letterCount b) (stateCount b) (decode b .step)
   pub progresses : (q : ℕ) → q < stateCount b → Closed (letterCount b) (sizeOf b q) (decode b .progress q)
   pub marks : (q p : ℕ) → q < stateCount b → p < sizeOf b q → getD b (marksAt b q + p) 0 < 2
-
--- Each entry that a walk over the word reads lies within the bytes.
-pub record Walkable (b : List ℕ) (at s q : ℕ) (w : List ℕ) : Type 0 where
-  pub inside : (i : ℕ) → i < length w → at + (walk (tableStep b at s) q (take i w) * s + getD w i 0) < length b

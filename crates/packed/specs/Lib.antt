@@ -1,3 +1,4 @@
 pub mod Tables
 pub mod Layout
 pub mod Faults
+pub mod Columns

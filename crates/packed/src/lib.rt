@@ -1,14 +1,17 @@
 // The packed sheet: a family of DFAs as bytes. It is checked here, and its tables are read here.
+mod walking;
+
 use fdfa::Part;
 use fdfa::Refusal;
+pub use walking::columns;
+pub use walking::walk;
 ghost use mathlib.Core.Path.{_≡_};
-ghost use Prim.Native.Nat.{_+_, _*_, _≤_, _<_};
+ghost use Prim.Native.Nat.{ℕ, _+_, _*_, _≤_, _<_};
 ghost use lib.Dec.{eqb};
 ghost use lib.ListN.{length, getD};
-ghost use Rattle.fdfa.specs.Family.{walk};
 ghost use Rattle.fdfa.specs.Inclusion.{largest};
 ghost use Rattle.fdfa.specs.Refusals.{unless};
-ghost use Rattle.packed.specs.Layout.{letterCount, stateCount, sizeOf, progressAt, sheetLength, tableStep, Header, Walkable};
+ghost use Rattle.packed.specs.Layout.{letterCount, stateCount, sizeOf, progressAt, sheetLength, tableStep, Header};
 ghost use Rattle.packed.specs.Faults.{outside, firstOutside, progressFault, sizesOf, checked, saysOf, secondFault, checkedPair, pairSays};
 
 // The counts of a sheet: s, n and the largest k(q).
@@ -55,6 +58,33 @@ pub fn first_outside(sheet: &[u8], low: usize, limit: usize, at: usize, count: u
         i += 1;
     }
     count
+}
+
+// The largest byte, 0 where there is none.
+fn top(word: &[u8]) -> u8
+    ensures { λ r. ⌜ ((i : ℕ) → i < length (now (word .entry)) → getD (now (word .entry)) i 0 ≤ r) ⌝ }
+{
+    let mut most = 0;
+    let mut i = 0;
+    while i < word.len() {
+        let x = word[i];
+        if most < x {
+            most = x;
+        }
+        i += 1;
+    }
+    most
+}
+
+// How many letters of a word come before the first that is not below `letters`. The usual case, that there is none, is seen from
+// the largest, which takes vector instructions.
+pub fn first_unknown(word: &[u8], letters: usize) -> usize
+    ensures { λ r. ⌜ r ≡ firstOutside 0 letters (now (word .entry)) 0 (length (now (word .entry))) ⌝ }
+{
+    if wide(top(word)) < letters {
+        return word.len();
+    }
+    first_outside(word, 0, letters, 0, word.len())
 }
 
 // How many leading states the sheet has.
@@ -112,20 +142,6 @@ pub fn next(sheet: &[u8], at: usize, letters: usize, state: usize, letter: usize
     ensures { λ r. ⌜ r ≡ tableStep (now (sheet .entry)) at letters state letter ⌝ }
 {
     wide(sheet[at + (state * letters + letter)])
-}
-
-// Where the automaton whose table begins at `at` stands after the word, from `state`.
-pub fn walk(sheet: &[u8], at: usize, letters: usize, state: usize, word: &[u8]) -> usize
-    requires { ⌜ Walkable (now sheet) at letters state (now word) ⌝ }
-    ensures { λ r. ⌜ r ≡ walk (tableStep (now (sheet .entry)) at letters) state (now (word .entry)) ⌝ }
-{
-    let mut q = state;
-    let mut i = 0;
-    while i < word.len() {
-        q = next(sheet, at, letters, q, wide(word[i]));
-        i += 1;
-    }
-    q
 }
 
 // Whether a state is marked, by marks that begin at `at`.

@@ -53,18 +53,18 @@ unfolding lassoFault
 to-prefix c = let s = start (c .before .before) in passed (prefix (sheet s) (before s) (loop s)) (sized c .0)
 
 -- the scan of a word, in the sheet's own terms
-prefix-scan : (c : tie.After-first-outside) → let s = start (c .before .before .before .before) in
-    c .first-outside .result ≡ firstOutside 0 (letterCount (sheet s)) (before s) 0 (length (before s))
+prefix-scan : (c : tie.After-first-unknown) → let s = start (c .before .before .before .before) in
+    c .first-unknown .result ≡ firstOutside 0 (letterCount (sheet s)) (before s) 0 (length (before s))
 prefix-scan c =
     let u = before (start (c .before .before .before .before)) in
-    c .first-outside .ensures ∙ ap (λ (n : ℕ). firstOutside 0 n u 0 (length u)) (letters (c .before .before))
+    c .first-unknown .ensures ∙ ap (λ (n : ℕ). firstOutside 0 n u 0 (length u)) (letters (c .before .before))
 
-period-scan : (c : tie.After-first-outside2) → let d = c .before .before .before in let s = start (d .before .before .before .before) in
-    c .first-outside2 .result ≡ firstOutside 0 (letterCount (sheet s)) (loop s) 0 (length (loop s))
+period-scan : (c : tie.After-first-unknown2) → let d = c .before .before .before in let s = start (d .before .before .before .before) in
+    c .first-unknown2 .result ≡ firstOutside 0 (letterCount (sheet s)) (loop s) 0 (length (loop s))
 period-scan c =
     let d = c .before .before .before in
     let v = loop (start (d .before .before .before .before)) in
-    c .first-outside2 .ensures ∙ ap (λ (n : ℕ). firstOutside 0 n v 0 (length v)) (letters (d .before .before))
+    c .first-unknown2 .ensures ∙ ap (λ (n : ℕ). firstOutside 0 n v 0 (length v)) (letters (d .before .before))
 
 to-period : (c : tie.Else1) → let s = start (c .before .before .before .before .before) in lassoFault (sheet s) (before s) (loop s) ≡ period (sheet s) (loop s)
 to-period c =
@@ -87,8 +87,8 @@ enum-known-validity c = search needs
 enum-known-validity-2 : tie.Need-enum-known-validity-2
 enum-known-validity-2 c = search needs
 
-first-outside-requires : tie.Need-first-outside-requires
-first-outside-requires c κs = search needs
+first-unknown-requires : tie.Need-first-unknown-requires
+first-unknown-requires c κs = search needs
 
 refuse-requires : tie.Need-refuse-requires
 refuse-requires c κs = search needs
@@ -98,7 +98,7 @@ returns c =
     let d = c .before .before in
     let s = start (d .before .before .before .before) in
     ap checkSays (c .refuse .ensures)
-    ∙ ((λ i. refused (record { number = 9; part = Opening; place = at-place (d .first-outside .result) i }))
+    ∙ ((λ i. refused (record { number = 9; part = Opening; place = at-place (d .first-unknown .result) i }))
     ∙ refuses (sizesOf (sheet s))
     (to-prefix (d .before .before) ∙ failed (period (sheet s) (loop s)) (scan-fails 9 Opening 0 _ (before s) 0 _ _ (prefix-scan d) (c .before .if1 .taken))))
 
@@ -112,8 +112,8 @@ returns-2 c =
     ap checkSays (c .refuse2 .ensures)
     ∙ refuses (sizesOf (sheet s)) (to-period d ∙ failed _ (when-fails 8 Loop 0 (eq-eqb _ 0 (c .before .if2 .taken))))
 
-first-outside-requires-2 : tie.Need-first-outside-requires-2
-first-outside-requires-2 c κs = search needs
+first-unknown-requires-2 : tie.Need-first-unknown-requires-2
+first-unknown-requires-2 c κs = search needs
 
 refuse-requires-3 : tie.Need-refuse-requires-3
 refuse-requires-3 c κs = search needs
@@ -123,7 +123,7 @@ returns-3 c =
     let d = c .before .before in
     let s = start (d .before .before .before .before .before .before .before) in
     ap checkSays (c .refuse3 .ensures)
-    ∙ ((λ i. refused (record { number = 9; part = Loop; place = at-place (d .first-outside2 .result) i }))
+    ∙ ((λ i. refused (record { number = 9; part = Loop; place = at-place (d .first-unknown2 .result) i }))
     ∙ refuses (sizesOf (sheet s))
     (to-letters (d .before) ∙ scan-fails 9 Loop 0 _ (loop s) 0 _ _ (period-scan d) (c .before .if3 .taken)))
 
@@ -148,12 +148,12 @@ check-spec =
     check-requires
     enum-known-validity
     enum-known-validity-2
-    first-outside-requires
+    first-unknown-requires
     refuse-requires
     returns
     refuse-requires-2
     returns-2
-    first-outside-requires-2
+    first-unknown-requires-2
     refuse-requires-3
     returns-3
     returns-4

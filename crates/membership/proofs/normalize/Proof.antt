@@ -5,37 +5,36 @@ use Prim.Native.Nat.{ℕ, _+_, _*_, _-_, _≤_, _<_}
 use native.Mathlib.Omega.{arith}
 use denote.Ref.{now}
 use lib.ListN.{getD, set}
-use Rattle.fdfa.specs.Words.{turns}
+use Rattle.fdfa.specs.Words.{Over, turns}
 use Rattle.fdfa.specs.Family.{walk}
 use Rattle.fdfa.specs.Normalization.{returnFrom, returning}
 use Rattle.fdfa.proofs.Words.{over-turns, walk-closed, walk-turn}
 use Rattle.fdfa.proofs.Normal.{turns-follow}
 use Rattle.packed.specs.Layout.{letterCount, stateCount, leadingAt, tableStep}
-use Rattle.packed.proofs.Reading.{lead-walkable}
-use Rattle.membership.specs.Verdict.{Closing}
+use Rattle.packed.specs.Columns.{columnStep, Columns, Walkable}
+use Rattle.packed.proofs.Reading.{lead-fits, lead-walks}
+use Rattle.membership.specs.Verdict.{Closing, turning}
 use Rattle.membership.proofs.Seen.{Seen, seen-none, room, seen-more, seen-returns}
 use borrow.Author.Needs.{needs}
 use Rattle.membership.proofs.normalize.Statement.{statement}
 use Rattle.membership.proofs.normalize.Tie as tie
 
--- the leading states after 0, 1, .. turns from a state
-abbrev states : List ℕ → ℕ → List ℕ → ℕ → ℕ
-states b q v t = walk (tableStep b (leadingAt b) (letterCount b)) q (turns v t)
-
 abbrev Inv-loop : tie.InvT-loop
-Inv-loop sheet at letters start period seen₀ q₀ t₀ seen q t = Seen (states sheet start period) seen t × (t ≤ stateCount sheet) × (q ≡ states sheet start period t)
+Inv-loop sheet at letters states prefix period table seen₀ q₀ t₀ seen q t = Seen (turning sheet prefix period) seen t × (t ≤ stateCount sheet) × (q ≡ turning sheet prefix period t)
 
 abbrev μ-loop : tie.MeasureT-loop
-μ-loop sheet at letters start period seen₀ q₀ t₀ seen q t = stateCount sheet - t
+μ-loop sheet at letters states prefix period table seen₀ q₀ t₀ seen q t = stateCount sheet - t
 
 abbrev entry : tie.At-loop Inv-loop μ-loop → tie.Start Inv-loop μ-loop
-entry c = c .before .before .before
+entry c = c .before .before .before .before .before .before .before
 
 abbrev seq : tie.At-loop Inv-loop μ-loop → ℕ → ℕ
-seq c = states (now (entry c .args .sheet)) (entry c .args .start) (now (entry c .args .period))
+seq c = turning (now (entry c .args .sheet)) (now (entry c .args .prefix)) (now (entry c .args .period))
 
 within : (c : tie.At-loop Inv-loop μ-loop) (t : ℕ) → seq c t < stateCount (now (entry c .args .sheet))
-within c t = let p = entry c .pre .0 in walk-closed (p .0 .leads) (p .2) (over-turns t (p .1))
+within c t =
+    let p = entry c .pre .0 in
+    walk-closed (p .0 .leads) (walk-closed (p .0 .leads) (p .0 .header .some-states) (p .1 .prefix)) (over-turns t (p .1 .period))
 
 few : (c : tie.At-loop Inv-loop μ-loop) → stateCount (now (entry c .args .sheet)) ≤ 32
 few c = entry c .pre .0 .0 .header .few-states
@@ -56,8 +55,36 @@ found c =
     let i = c .before in
     seen-returns (seq i) _ (within i) (few i) _ _ (i .loop .inv .0) (turns-follow _ _ _) (λ e. c .loop-test .left (noted i ∙ e))
 
+-- how the table is walked
+walks : (c : tie.After-columns Inv-loop μ-loop) (q : ℕ) {w : List ℕ} → let s = c .before .before .before .before in let b = now (s .args .sheet) in q < stateCount b → Over (letterCount b) w
+    → Walkable (c .columns .result) q w × (walk (columnStep (c .columns .result)) q w ≡ walk (tableStep b (leadingAt b) (letterCount b)) q w)
+walks c q h o = let p = c .before .before .before .before .pre in lead-walks _ (p .0 .0) (c .columns .ensures) (p .1 .0) (p .1 .1) (p .1 .2) h o
+
+turn : (c : tie.In-loop Inv-loop μ-loop) → let i = c .before in let t = i .before .before .before .columns .result in let b = now (entry i .args .sheet) in let v = now (entry i .args .period) in
+    Walkable t (i .loop .q) v × (walk (columnStep t) (i .loop .q) v ≡ walk (tableStep b (leadingAt b) (letterCount b)) (i .loop .q) v)
+turn c =
+    let i = c .before in
+    walks (i .before .before .before) (i .loop .q) (omega (arith, i .loop .inv .2, within i (i .loop .t))) (entry i .pre .0 .1 .period)
+
+columns-requires : tie.Need-columns-requires Inv-loop μ-loop
+columns-requires c κs =
+    let s = c .before .before .before in
+    let p = s .pre in
+    let e : s .args .at + s .args .states * s .args .letters ≡ leadingAt (now (s .args .sheet)) + stateCount (now (s .args .sheet)) * letterCount (now (s .args .sheet)) =
+    λ i. p .1 .0 i + p .1 .2 i * p .1 .1 i in
+    (omega (arith, e, lead-fits _ (p .0 .0)), omega (arith, p .1 .1, p .0 .0 .header .few-letters), omega (arith, p .1 .2, p .0 .0 .header .few-states))
+
+slice-aggregate-walk : tie.Need-slice-aggregate-walk Inv-loop μ-loop
+slice-aggregate-walk c = sym (c .before .columns .ensures .long)
+
+walk-requires : tie.Need-walk-requires Inv-loop μ-loop
+walk-requires c κs =
+    let p = c .before .before .before .before .before .pre .0 in walks (c .before) 0 (p .0 .header .some-states) (p .1 .prefix) .0
+
 loop-holds : tie.Need-loop-holds Inv-loop μ-loop
-loop-holds c = (seen-none _, search needs, refl)
+loop-holds c =
+    let p = c .before .before .before .before .before .before .pre .0 in
+    (seen-none _, search needs, c .walk .ensures ∙ walks (c .before .before) 0 (p .0 .header .some-states) (p .1 .prefix) .1)
 
 mul-loop : tie.Need-mul-loop Inv-loop μ-loop
 mul-loop c = omega (arith, state-few c)
@@ -74,27 +101,29 @@ mul-seen c = omega (arith, state-few (c .before))
 array-write-seen : tie.Need-array-write-seen Inv-loop μ-loop
 array-write-seen c = state-few (c .before)
 
-walk-requires : tie.Need-walk-requires Inv-loop μ-loop
-walk-requires c κs =
-    let i = c .before in
-    let p = entry i .pre in
-    lead-walkable _ (p .0 .0) (p .1 .0) (p .1 .1) (omega (arith, i .loop .inv .2, within i (i .loop .t))) (p .0 .1)
+slice-aggregate-walk-2 : tie.Need-slice-aggregate-walk-2 Inv-loop μ-loop
+slice-aggregate-walk-2 c = sym (c .before .before .before .before .before .columns .ensures .long)
+
+walk-requires-2 : tie.Need-walk-requires-2 Inv-loop μ-loop
+walk-requires-2 c κs = turn (c .before) .0
 
 add-t : tie.Need-add-t Inv-loop μ-loop
-add-t c = omega (arith, left (c .before), few (c .before .before))
+add-t c = omega (arith, left (c .before .before), few (c .before .before .before))
 
 loop-less : tie.Need-loop-less Inv-loop μ-loop
-loop-less c = omega (arith, left (c .before))
+loop-less c = omega (arith, left (c .before .before))
 
 loop-again : tie.Need-loop-again Inv-loop μ-loop
 loop-again c =
-    let i = c .before .before in
+    let d = c .before .before in
+    let i = d .before in
     let t = i .loop .t in
-    let p = entry i .pre .1 in
-    let q = i .loop .inv .2 in (
-      subst (λ (x : ℕ). Seen (seq i) (set (i .loop .seen) x (t + 1)) (t + 1)) (sym q) (seen-more (seq i) _ (within i) (few i) _ _ (i .loop .inv .0) (sym (noted i) ∙ c .before .loop-test .taken)),
-      omega (arith, left (c .before)),
-      c .walk .ensures ∙ ((λ j. walk (tableStep (now (entry i .args .sheet)) (p .0 j) (p .1 j)) (q j) (now (entry i .args .period))) ∙ walk-turn _ _ _ t),
+    let q = i .loop .inv .2 in
+    let b = now (entry i .args .sheet) in (
+      subst (λ (x : ℕ). Seen (seq i) (set (i .loop .seen) x (t + 1)) (t + 1)) (sym q) (seen-more (seq i) _ (within i) (few i) _ _ (i .loop .inv .0) (sym (noted i) ∙ d .loop-test .taken)),
+      omega (arith, left d),
+      c .walk2 .ensures
+          ∙ (turn d .1 ∙ (ap (λ (p : ℕ). walk (tableStep b (leadingAt b) (letterCount b)) p (now (entry i .args .period))) q ∙ walk-turn _ _ _ t)),
     )
 
 mul-i : tie.Need-mul-i Inv-loop μ-loop
@@ -106,8 +135,8 @@ array-read-i c = state-few (c .before)
 sub-i : tie.Need-sub-i Inv-loop μ-loop
 sub-i c = omega (arith, noted (c .before), found c .0)
 
-sub-t17 : tie.Need-sub-t17 Inv-loop μ-loop
-sub-t17 c = omega (arith, noted (c .before), found c .1)
+sub-t24 : tie.Need-sub-t24 Inv-loop μ-loop
+sub-t24 c = omega (arith, noted (c .before), found c .1)
 
 returns : tie.Need-returns Inv-loop μ-loop
 returns c =
@@ -126,18 +155,22 @@ normalize-spec =
     (tie.spec
     Inv-loop
     μ-loop
+    columns-requires
+    slice-aggregate-walk
+    walk-requires
     loop-holds
     mul-loop
     array-read-loop
     add-seen
     mul-seen
     array-write-seen
-    walk-requires
+    slice-aggregate-walk-2
+    walk-requires-2
     add-t
     loop-less
     loop-again
     mul-i
     array-read-i
     sub-i
-    sub-t17
+    sub-t24
     returns)

@@ -11,24 +11,17 @@ use Rattle.fdfa.specs.Family.{walk}
 use Rattle.fdfa.proofs.Words.{over-turns, walk-closed, walk-turn}
 use Rattle.packed.specs.Layout.{letterCount, stateCount, sizeOf, progressAt, marksAt, tableStep, decode, Valid}
 use Rattle.packed.proofs.Bounds.{Body}
-use Rattle.packed.proofs.Reading.{part-of, progress-walkable}
+use Rattle.packed.specs.Columns.{columnStep, Walkable}
+use Rattle.packed.proofs.Reading.{part-of, progress-walks}
 use borrow.Author.Needs.{needs}
 use Rattle.membership.proofs.progress.Statement.{statement}
 use Rattle.membership.proofs.progress.Tie as tie
 
 abbrev Inv-loop : tie.InvT-loop
-Inv-loop sheet letters q period count at end₀ t₀ end t = (t ≤ count) × (end ≡ walk (tableStep sheet at letters) 0 (turns period t))
+Inv-loop sheet letters q period count at k table end₀ t₀ end t = (t ≤ count) × (end ≡ walk (decode sheet .progress q) 0 (turns period t))
 
 abbrev μ-loop : tie.MeasureT-loop
-μ-loop sheet letters q period count at end₀ t₀ end t = count - t
-
--- where the progress automaton stands is one of its states
-stands : (b v : List ℕ) (at s q e t : ℕ) → Valid b → Over (letterCount b) v → q < stateCount b → at ≡ progressAt b q → s ≡ letterCount b
-    → e ≡ walk (tableStep b at s) 0 (turns v t) → (e ≡ walk (decode b .progress q) 0 (turns v t)) × (e < sizeOf b q)
-stands b v at s q e t valid over h ea es d = (at-own, rw at-own (walk-closed (valid .progresses q h) (valid .header .some-size q h) (over-turns t over)))
-  where
-    at-own : e ≡ walk (decode b .progress q) 0 (turns v t)
-    at-own = d ∙ (λ i. walk (tableStep b (ea i) (es i)) 0 (turns v t))
+μ-loop sheet letters q period count at k table end₀ t₀ end t = count - t
 
 turned : (f : ℕ → ℕ → ℕ) (v : List ℕ) (e t : ℕ) → e ≡ walk f 0 (turns v t) → walk f e v ≡ walk f 0 (turns v (t + 1))
 turned f v e t d = ap (λ (q : ℕ). walk f q v) d ∙ walk-turn f 0 v t
@@ -36,47 +29,68 @@ turned f v e t d = ap (λ (q : ℕ). walk f q v) d ∙ walk-turn f 0 v t
 turned-all : (f : ℕ → ℕ → ℕ) (v : List ℕ) (t count : ℕ) → t ≤ count → count ≤ t → walk f 0 (turns v t) ≡ walk f 0 (turns v count)
 turned-all f v t count h l = let e : t ≡ count = omega arith in ap (λ (n : ℕ). walk f 0 (turns v n)) e
 
-abbrev start : tie.At-loop Inv-loop μ-loop → tie.Start Inv-loop μ-loop
+abbrev start : tie.After-size Inv-loop μ-loop → tie.Start Inv-loop μ-loop
 start c = c .before .before .before .before
 
-standing : (c : tie.At-loop Inv-loop μ-loop) → let s = start c in let b = now (s .args .sheet) in
-    (c .loop .end ≡ walk (decode b .progress (s .args .q)) 0 (turns (now (s .args .period)) (c .loop .t))) × (c .loop .end < sizeOf b (s .args .q))
-standing c =
-    let s = start c in
-    stands _ _ _ _ (s .args .q) _ (c .loop .t) (s .pre .0 .0) (s .pre .0 .1) (s .pre .0 .2) (c .before .progress-at .ensures) (s .pre .1) (c .loop .inv .1)
+abbrev sized : tie.At-loop Inv-loop μ-loop → tie.After-size Inv-loop μ-loop
+sized c = c .before .before
+
+-- where the progress automaton stands is one of its states
+below : (c : tie.At-loop Inv-loop μ-loop) → let s = start (sized c) in c .loop .end < sizeOf (now (s .args .sheet)) (s .args .q)
+below c =
+    let s = start (sized c) in
+    let p = s .pre .0 in
+    let l : walk (decode (now (s .args .sheet)) .progress (s .args .q)) 0 (turns (now (s .args .period)) (c .loop .t)) < sizeOf (now (s .args .sheet)) (s .args .q) =
+    walk-closed (p .0 .progresses (s .args .q) (p .2)) (p .0 .header .some-size (s .args .q) (p .2)) (over-turns (c .loop .t) (p .1)) in
+    omega (arith, c .loop .inv .1)
 
 -- where its marks begin
-marks : (c : tie.After-size Inv-loop μ-loop) → let s = start (c .before .before) in let b = now (s .args .sheet) in
-    c .before .before .before .progress-at .result + c .size .result * s .args .letters ≡ marksAt b (s .args .q)
+marks : (c : tie.After-size Inv-loop μ-loop) → let s = start c in let b = now (s .args .sheet) in
+    c .before .progress-at .result + c .size .result * s .args .letters ≡ marksAt b (s .args .q)
 marks c =
-    let s = start (c .before .before) in
-    let at = c .before .before .before .progress-at .ensures in
+    let s = start c in
+    let at = c .before .progress-at .ensures in
     let k = c .size .ensures in
     let n = s .pre .1 in
     λ i. at i + k i * n i
 
-body : (c : tie.After-size Inv-loop μ-loop) → let s = start (c .before .before) in let b = now (s .args .sheet) in Body b (s .args .q) (progressAt b (s .args .q)) (sizeOf b (s .args .q)) (letterCount b)
-body c = let s = start (c .before .before) in part-of _ (s .pre .0 .0) (s .args .q) (s .pre .0 .2)
+body : (c : tie.After-size Inv-loop μ-loop) → let s = start c in let b = now (s .args .sheet) in Body b (s .args .q) (progressAt b (s .args .q)) (sizeOf b (s .args .q)) (letterCount b)
+body c = let s = start c in part-of _ (s .pre .0 .0) (s .args .q) (s .pre .0 .2)
 
-product-few : (c : tie.After-size Inv-loop μ-loop) → c .size .result * start (c .before .before) .args .letters ≤ 1024
+product-few : (c : tie.After-size Inv-loop μ-loop) → c .size .result * start c .args .letters ≤ 1024
 product-few c =
-    let s = start (c .before .before) in
+    let s = start c in
     let k = c .size .ensures in
     let n = s .pre .1 in
     let e : c .size .result * s .args .letters ≡ sizeOf (now (s .args .sheet)) (s .args .q) * letterCount (now (s .args .sheet)) = λ i. k i * n i in
     omega (arith, body c .table)
 
+turn : (c : tie.At-loop Inv-loop μ-loop) → let s = start (sized c) in let t = c .before .columns .result in let v = now (s .args .period) in
+    Walkable t (c .loop .end) v × (walk (columnStep t) (c .loop .end) v ≡ walk (decode (now (s .args .sheet)) .progress (s .args .q)) (c .loop .end) v)
+turn c =
+    let d = sized c in
+    let s = start d in
+    progress-walks _ (s .pre .0 .0) (c .before .columns .ensures) (d .before .progress-at .ensures) (s .pre .1) (d .size .ensures) (s .pre .0 .2) (below c) (s .pre .0 .1)
+
 progress-at-requires : tie.Need-progress-at-requires Inv-loop μ-loop
 progress-at-requires c κs = let p = c .before .before .pre .0 in (p .0 .header, omega (arith, p .2))
+
+size-requires : tie.Need-size-requires Inv-loop μ-loop
+size-requires c κs = let s = c .before .before .before in omega (arith, s .pre .0 .0 .header .long, s .pre .0 .2)
+
+columns-requires : tie.Need-columns-requires Inv-loop μ-loop
+columns-requires c κs =
+    let p = start c .pre in
+    (omega (arith, marks c, body c .within), omega (arith, p .1, p .0 .0 .header .few-letters), omega (arith, c .size .ensures, p .0 .0 .header .few-size (start c .args .q) (p .0 .2)))
 
 loop-holds : tie.Need-loop-holds Inv-loop μ-loop
 loop-holds c = (search needs, refl)
 
+slice-aggregate-walk : tie.Need-slice-aggregate-walk Inv-loop μ-loop
+slice-aggregate-walk c = sym (c .before .before .before .columns .ensures .long)
+
 walk-requires : tie.Need-walk-requires Inv-loop μ-loop
-walk-requires c κs =
-    let i = c .before in
-    let s = start i in
-    progress-walkable _ (s .pre .0 .0) (i .before .progress-at .ensures) (s .pre .1) (s .pre .0 .2) (standing i .1) (s .pre .0 .1)
+walk-requires c κs = turn (c .before .before) .0
 
 add-t : tie.Need-add-t Inv-loop μ-loop
 add-t c = search needs
@@ -86,29 +100,26 @@ loop-less c = search needs
 
 loop-again : tie.Need-loop-again Inv-loop μ-loop
 loop-again c =
-    let i = c .before .before in
-    let s = start i .args in
-    (search needs, c .walk .ensures ∙ turned (tableStep (now (s .sheet)) (i .before .progress-at .result) (s .letters)) (now (s .period)) _ (i .loop .t) (i .loop .inv .1))
-
-size-requires : tie.Need-size-requires Inv-loop μ-loop
-size-requires c κs = let s = start (c .before) in omega (arith, s .pre .0 .0 .header .long, s .pre .0 .2)
+    let i = c .before .before .before in
+    let s = start (sized i) .args in
+    (search needs, c .walk .ensures ∙ (turn i .1 ∙ turned (decode (now (s .sheet)) .progress (s .q)) (now (s .period)) _ (i .loop .t) (i .loop .inv .1)))
 
 mul-marks : tie.Need-mul-marks Inv-loop μ-loop
-mul-marks c = omega (arith, product-few c)
+mul-marks c = omega (arith, product-few (sized (c .before)))
 
 add-marks : tie.Need-add-marks Inv-loop μ-loop
-add-marks c = omega (arith, marks c, body c .within, body c .low)
+add-marks c = let d = sized (c .before) in omega (arith, marks d, body d .within, body d .low)
 
 is-marked-requires : tie.Need-is-marked-requires Inv-loop μ-loop
-is-marked-requires c κs = omega (arith, marks c, body c .within, standing (c .before .before) .1)
+is-marked-requires c κs = let d = sized (c .before) in omega (arith, marks d, body d .within, below (c .before))
 
 returns : tie.Need-returns Inv-loop μ-loop
 returns c =
-    let i = c .before .before .before in
-    let s = start i .args in
+    let i = c .before .before in
+    let s = start (sized i) .args in
     record {
-      stands = standing i .0 ∙ turned-all (decode (now (s .sheet)) .progress (s .q)) (now (s .period)) (i .loop .t) (s .count) (i .loop .inv .0) (c .before .before .loop-test .left);
-      says = c .is-marked .ensures ∙ ap (λ (m : ℕ). eqb (getD (now (s .sheet)) (m + i .loop .end) 0) 1) (marks (c .before));
+      stands = i .loop .inv .1 ∙ turned-all (decode (now (s .sheet)) .progress (s .q)) (now (s .period)) (i .loop .t) (s .count) (i .loop .inv .0) (c .before .loop-test .left);
+      says = c .is-marked .ensures ∙ ap (λ (m : ℕ). eqb (getD (now (s .sheet)) (m + i .loop .end) 0) 1) (marks (sized i));
     }
 
 pub progress-spec : {M : Type 1} → statement M
@@ -118,12 +129,14 @@ progress-spec =
     Inv-loop
     μ-loop
     progress-at-requires
+    size-requires
+    columns-requires
     loop-holds
+    slice-aggregate-walk
     walk-requires
     add-t
     loop-less
     loop-again
-    size-requires
     mul-marks
     add-marks
     is-marked-requires

@@ -15,12 +15,11 @@ use Rattle.fdfa.proofs.Words.{walk-closed, over-turns}
 use Rattle.packed.specs.declared.Sizes.{Sizes}
 use Rattle.packed.specs.Layout.{letterCount, stateCount, leadingAt, tableStep, decode, Valid}
 use Rattle.packed.specs.Faults.{sizesOf}
-use Rattle.packed.proofs.Reading.{lead-walkable}
 use Rattle.membership.specs.declared.Checked.{Checked}
 use Rattle.membership.specs.declared.Checked.the-variants as checked
 use Rattle.membership.specs.declared.Judgement.{Judgement}
 use Rattle.membership.specs.declared.Judgement.the-variants as judgement
-use Rattle.membership.specs.Verdict.{lassoFault, judged, saysOf, checkSays, Closing}
+use Rattle.membership.specs.Verdict.{lassoFault, judged, saysOf, checkSays, turning}
 use Rattle.membership.proofs.Checked as checked-type
 use Rattle.membership.proofs.Judging.{lasso-valid, verdict-found}
 use borrow.Author.Needs.{needs}
@@ -59,28 +58,15 @@ letters c = ap (λ (z : Sizes). z .letters) (good c .1)
 at : (c : tie.After-checked) → 2 + c .checked .given .0 .0 .states ≡ leadingAt (sheet c)
 at c = ap (λ (z : Sizes). 2 + z .states) (good c .1)
 
--- the state after the prefix
-first : (c : tie.After-walk) → let d = c .before .before .before in c .walk .result ≡ walk (tableStep (sheet d) (leadingAt (sheet d)) (letterCount (sheet d))) 0 (before d)
-first c = let d = c .before .before .before in c .walk .ensures ∙ (λ i. walk (tableStep (sheet d) (at d i) (letters d i)) 0 (before d))
+states : (c : tie.After-checked) → c .checked .given .0 .0 .states ≡ stateCount (sheet c)
+states c = ap (λ (z : Sizes). z .states) (good c .1)
 
-first-below : (c : tie.After-walk) → c .walk .result < stateCount (sheet (c .before .before .before))
-first-below c =
-    let d = c .before .before .before in
-    let l : walk (tableStep (sheet d) (leadingAt (sheet d)) (letterCount (sheet d))) 0 (before d) < stateCount (sheet d) =
-    walk-closed (valid d .0 .leads) (valid d .0 .header .some-states) (valid d .1 .prefix) in
-    omega (arith, first c)
-
-closing : (c : tie.After-normalize) → let d = c .before .before .before .before in
-    Closing (sheet d) (loop d) (walk (tableStep (sheet d) (leadingAt (sheet d)) (letterCount (sheet d))) 0 (before d)) (c .normalize .result .i) (c .normalize .result .j) (c .normalize .result .place)
-closing c =
-    let d = c .before .before .before .before in
-    subst (λ (q : ℕ). Closing (sheet d) (loop d) q (c .normalize .result .i) (c .normalize .result .j) (c .normalize .result .place)) (first (c .before)) (c .normalize .ensures)
-
-place-below : (c : tie.After-normalize) → c .normalize .result .place < stateCount (sheet (c .before .before .before .before))
+place-below : (c : tie.After-normalize) → c .normalize .result .place < stateCount (sheet (c .before .before .before))
 place-below c =
-    let d = c .before .before .before .before in
-    let l : walk (tableStep (sheet d) (leadingAt (sheet d)) (letterCount (sheet d))) (c .before .walk .result) (turns (loop d) (c .normalize .result .i)) < stateCount (sheet d) =
-    walk-closed (valid d .0 .leads) (first-below (c .before)) (over-turns (c .normalize .result .i) (valid d .1 .period)) in
+    let d = c .before .before .before in
+    let leads = valid d .0 .leads in
+    let l : turning (sheet d) (before d) (loop d) (c .normalize .result .i) < stateCount (sheet d) =
+    walk-closed leads (walk-closed leads (valid d .0 .header .some-states) (valid d .1 .prefix)) (over-turns (c .normalize .result .i) (valid d .1 .period)) in
     omega (arith, c .normalize .ensures .at)
 
 check-requires : tie.Need-check-requires
@@ -100,25 +86,20 @@ returns c =
     let d = c .before .before .before in
     passed-on _ _ _ (d .check .result) _ (c .before .before .match .keys2) (c .refused .ensures) (d .check .ensures)
 
-add-at : tie.Need-add-at
-add-at c = let d = c .before .before in omega (arith, at d, valid d .0 .header .few-states)
-
-walk-requires : tie.Need-walk-requires
-walk-requires c κs =
-    let d = c .before .before in lead-walkable _ (valid d .0) (at d) (letters d) (valid d .0 .header .some-states) (valid d .1 .prefix)
+add-normalize : tie.Need-add-normalize
+add-normalize c = let d = c .before .before in omega (arith, at d, valid d .0 .header .few-states)
 
 normalize-requires : tie.Need-normalize-requires
-normalize-requires c κs =
-    let d = c .before .before .before in ((valid d .0, valid d .1 .period, first-below c), (at d, letters d))
+normalize-requires c κs = let d = c .before .before in (valid d, (at d, letters d, states d))
 
 progress-requires : tie.Need-progress-requires
 progress-requires c κs =
-    let d = c .before .before .before .before in ((valid d .0, valid d .1 .period, place-below c), letters d)
+    let d = c .before .before .before in ((valid d .0, valid d .1 .period, place-below c), letters d)
 
 returns-2 : tie.Need-returns-2
 returns-2 c =
-    let d = c .before .before .before .before .before in
-    ap given (verdict-found (sheet d) (before d) (loop d) (closing (c .before)) (c .progress .ensures)) ∙ gives (verdict (decode (sheet d)) (before d) (loop d)) (good d .0)
+    let d = c .before .before .before .before in
+    ap given (verdict-found (sheet d) (before d) (loop d) (c .before .normalize .ensures) (c .progress .ensures)) ∙ gives (verdict (decode (sheet d)) (before d) (loop d)) (good d .0)
 
 pub verdict-spec : {M : Type 1} → statement M
 verdict-spec =
@@ -129,8 +110,7 @@ verdict-spec =
     enum-told
     refused-requires
     returns
-    add-at
-    walk-requires
+    add-normalize
     normalize-requires
     progress-requires
     returns-2)
