@@ -12,10 +12,7 @@ fn main() {
     let library = folder.join("libplayers.a");
     println!("cargo:rerun-if-changed={}", library.display());
     if !library.exists() {
-        panic!(
-            "{} is missing: run `rt staticlib players` in the repository",
-            library.display()
-        );
+        panic!("{} is missing: run `rt staticlib players` in the repository", library.display());
     }
     println!("cargo:rustc-link-search=native={}", folder.display());
     println!("cargo:rustc-link-lib=static=players");

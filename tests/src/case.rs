@@ -30,38 +30,15 @@ pub struct Case {
 impl Case {
     /// A verdict with an answer slice of the right length.
     pub fn verdict(sheet: &[u8], prefix: &[u8], period: &[u8]) -> Self {
-        let slices = vec![
-            sheet.to_vec(),
-            prefix.to_vec(),
-            period.to_vec(),
-            vec![0xee; VERDICT_BYTES],
-        ];
-        Case {
-            call: Call::Verdict,
-            kind: "paper",
-            placements: vec![Placement::End; 4],
-            slices,
-            shared: false,
-        }
+        let slices = vec![sheet.to_vec(), prefix.to_vec(), period.to_vec(), vec![0xee; VERDICT_BYTES]];
+        Case { call: Call::Verdict, kind: "paper", placements: vec![Placement::End; 4], slices, shared: false }
     }
 
     /// A comparison with room for a prefix and a period of those lengths.
     pub fn compare(first: &[u8], second: &[u8], prefix: usize, period: usize) -> Self {
         let answer = vec![0xee; COMPARE_BYTES];
-        let slices = vec![
-            first.to_vec(),
-            second.to_vec(),
-            vec![0xcc; prefix],
-            vec![0xdd; period],
-            answer,
-        ];
-        Case {
-            call: Call::Compare,
-            kind: "paper",
-            placements: vec![Placement::End; 5],
-            slices,
-            shared: false,
-        }
+        let slices = vec![first.to_vec(), second.to_vec(), vec![0xcc; prefix], vec![0xdd; period], answer];
+        Case { call: Call::Compare, kind: "paper", placements: vec![Placement::End; 5], slices, shared: false }
     }
 
     pub fn names(&self) -> &'static [&'static str] {
@@ -86,11 +63,7 @@ fn random_verdict(random: &mut Random) -> Case {
     let (kind, sheet) = any_sheet(random);
     let letters = sheet.first().map_or(1, |&letters| (letters as usize).clamp(1, MOST));
     let mut prefix = word(random, letters);
-    let mut period = if random.once_in(8) {
-        Vec::new()
-    } else {
-        word(random, letters)
-    };
+    let mut period = if random.once_in(8) { Vec::new() } else { word(random, letters) };
     let shared = random.once_in(32);
     if shared {
         period = prefix.clone();
@@ -98,11 +71,7 @@ fn random_verdict(random: &mut Random) -> Case {
     for word in [&mut prefix, &mut period] {
         if !shared && !word.is_empty() && random.once_in(6) {
             let at = random.below(word.len());
-            word[at] = if random.once_in(2) {
-                letters as u8
-            } else {
-                random.between(letters, 255) as u8
-            };
+            word[at] = if random.once_in(2) { letters as u8 } else { random.between(letters, 255) as u8 };
         }
     }
     let answer = answer(random, VERDICT_BYTES);
@@ -120,13 +89,7 @@ fn random_compare(random: &mut Random, search: &mut Search) -> Case {
     let prefix = room(random, needed.0);
     let period = room(random, needed.1);
     let answer = answer(random, COMPARE_BYTES);
-    finish(
-        random,
-        Call::Compare,
-        kind,
-        vec![first, second, prefix, period, answer],
-        shared,
-    )
+    finish(random, Call::Compare, kind, vec![first, second, prefix, period, answer], shared)
 }
 
 fn finish(random: &mut Random, call: Call, kind: &'static str, slices: Vec<Vec<u8>>, shared: bool) -> Case {
@@ -138,13 +101,7 @@ fn finish(random: &mut Random, call: Call, kind: &'static str, slices: Vec<Vec<u
         _ => Placement::Null,
     };
     let placements = slices.iter().map(|slice| placement(slice, random)).collect();
-    Case {
-        call,
-        kind,
-        slices,
-        placements,
-        shared,
-    }
+    Case { call, kind, slices, placements, shared }
 }
 
 /// Letters at random, one letter again and again, or a short word again and again; mostly few, now and then very many.

@@ -39,10 +39,7 @@ pub struct Checker {
 impl Default for Checker {
     fn default() -> Self {
         let regions = (0..5).map(|_| Region::new(LONGEST_WORD + 4096)).collect();
-        Checker {
-            regions,
-            search: Search::default(),
-        }
+        Checker { regions, search: Search::default() }
     }
 }
 
@@ -50,17 +47,9 @@ impl Checker {
     /// What the independent implementation says of a case.
     pub fn due(&mut self, case: &Case) -> Due {
         let mut slices = case.slices.clone();
-        let answer_length = if case.call == Call::Verdict {
-            VERDICT_BYTES
-        } else {
-            COMPARE_BYTES
-        };
+        let answer_length = if case.call == Call::Verdict { VERDICT_BYTES } else { COMPARE_BYTES };
         if slices[slices.len() - 1].len() < answer_length {
-            return Due {
-                returned: 0,
-                slices,
-                outcome: Outcome::AnswerTooShort,
-            };
+            return Due { returned: 0, slices, outcome: Outcome::AnswerTooShort };
         }
         let refused = |refusal: Refusal| Outcome::Refused(refusal.number, refusal.part);
         let outcome = match (case.call, slices.as_mut_slice()) {
@@ -76,11 +65,7 @@ impl Checker {
             }
             _ => unreachable!("each call has its own count of slices"),
         };
-        Due {
-            returned: 1,
-            slices,
-            outcome,
-        }
+        Due { returned: 1, slices, outcome }
     }
 
     /// Runs the case; the error says what differs.
@@ -111,9 +96,7 @@ impl Checker {
         for ((region, slice), &placement) in self.regions.iter_mut().zip(&case.slices).zip(&case.placements) {
             region.lend(slice, placement);
         }
-        let [a, b, c, d, e] = self.regions.as_mut_slice() else {
-            unreachable!("there are five")
-        };
+        let [a, b, c, d, e] = self.regions.as_mut_slice() else { unreachable!("there are five") };
         match case.call {
             Call::Verdict => {
                 let period = if case.shared { b.bytes() } else { c.bytes() };

@@ -27,13 +27,7 @@ pub enum Shape {
     Rising,
 }
 
-pub const SHAPES: [Shape; 5] = [
-    Shape::Free,
-    Shape::Cycle,
-    Shape::Permutation,
-    Shape::Lock,
-    Shape::Rising,
-];
+pub const SHAPES: [Shape; 5] = [Shape::Free, Shape::Cycle, Shape::Permutation, Shape::Lock, Shape::Rising];
 
 impl Draft {
     pub fn pack(&self) -> Vec<u8> {
@@ -109,11 +103,7 @@ pub fn sheet_of(random: &mut Random, letters: usize, size: fn(&mut Random) -> us
         let size = random.between(1, most);
         progress.push((table(random, shape, letters, size), marks(random, size)));
     }
-    Draft {
-        letters,
-        leading,
-        progress,
-    }
+    Draft { letters, leading, progress }
 }
 
 pub fn sheet(random: &mut Random) -> Draft {
@@ -192,11 +182,7 @@ pub fn cycles(letters: usize, states: usize, size: usize, marked: bool, random: 
     let next = table(random, Shape::Cycle, letters, size);
     let mut marks = vec![!marked as u8; size];
     marks[0] = marked as u8;
-    Draft {
-        letters,
-        leading,
-        progress: vec![(next, marks); states],
-    }
+    Draft { letters, leading, progress: vec![(next, marks); states] }
 }
 
 /// A sheet whose leading automaton is a lock and which marks (or leaves unmarked) only at its last state: it needs long prefixes.
@@ -205,14 +191,7 @@ pub fn lock(letters: usize, states: usize, size: usize, marked: bool, random: &m
     let mut progress = Vec::new();
     for state in 0..states {
         let last = state + 1 == states;
-        progress.push((
-            table(random, Shape::Free, letters, size),
-            vec![(last == marked) as u8; size],
-        ));
+        progress.push((table(random, Shape::Free, letters, size), vec![(last == marked) as u8; size]));
     }
-    Draft {
-        letters,
-        leading,
-        progress,
-    }
+    Draft { letters, leading, progress }
 }

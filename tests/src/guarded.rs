@@ -52,27 +52,12 @@ impl Region {
         let capacity = least.next_multiple_of(PAGE);
         // A fresh mapping that nothing else refers to; its middle is made accessible before it is used.
         let base = unsafe {
-            let base = mmap(
-                ptr::null_mut(),
-                capacity + 2 * PAGE,
-                NO_ACCESS,
-                PRIVATE_AND_ANONYMOUS,
-                -1,
-                0,
-            ) as *mut u8;
+            let base = mmap(ptr::null_mut(), capacity + 2 * PAGE, NO_ACCESS, PRIVATE_AND_ANONYMOUS, -1, 0) as *mut u8;
             assert!(base as isize != -1, "mmap failed");
-            assert!(
-                mprotect(base.add(PAGE).cast(), capacity, READ_AND_WRITE) == 0,
-                "mprotect failed"
-            );
+            assert!(mprotect(base.add(PAGE).cast(), capacity, READ_AND_WRITE) == 0, "mprotect failed");
             base
         };
-        let mut region = Region {
-            base,
-            capacity,
-            lent: 0..0,
-            pointer: Pointer::Real,
-        };
+        let mut region = Region { base, capacity, lent: 0..0, pointer: Pointer::Real };
         region.set_canaries(0..capacity);
         region
     }
@@ -96,10 +81,7 @@ impl Region {
     /// Puts a slice there. What was lent before becomes canaries again.
     pub fn lend(&mut self, contents: &[u8], placement: Placement) {
         self.set_canaries(self.lent.clone());
-        let spare = self
-            .capacity
-            .checked_sub(contents.len())
-            .expect("the region is large enough");
+        let spare = self.capacity.checked_sub(contents.len()).expect("the region is large enough");
         let start = match placement {
             Placement::Start | Placement::Dangling => 0,
             Placement::End | Placement::Null => spare,
@@ -138,17 +120,8 @@ impl Region {
         let memory = self.memory();
         let lent = &memory[self.lent.clone()];
         if lent != expected {
-            let at = lent
-                .iter()
-                .zip(expected)
-                .position(|(found, due)| found != due)
-                .unwrap_or(0);
-            return Err(format!(
-                "byte {at} of {} is {}, not {}",
-                lent.len(),
-                lent[at],
-                expected[at]
-            ));
+            let at = lent.iter().zip(expected).position(|(found, due)| found != due).unwrap_or(0);
+            return Err(format!("byte {at} of {} is {}, not {}", lent.len(), lent[at], expected[at]));
         }
         let before = self.lent.start.saturating_sub(NEAR)..self.lent.start;
         let after = self.lent.end..self.capacity.min(self.lent.end + NEAR);
@@ -158,11 +131,7 @@ impl Region {
 
     fn verify_canaries(&self, range: Range<usize>) -> Result<(), String> {
         let start = range.start;
-        match self.memory()[range]
-            .iter()
-            .enumerate()
-            .position(|(at, &byte)| byte != canary(start + at))
-        {
+        match self.memory()[range].iter().enumerate().position(|(at, &byte)| byte != canary(start + at)) {
             Some(at) => {
                 let distance = (start + at) as isize - self.lent.start as isize;
                 Err(format!("the canary at {distance} from the slice's start was changed"))

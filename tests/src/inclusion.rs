@@ -14,22 +14,29 @@ const PAIRS: usize = MOST * MOST;
 
 #[derive(Clone, Copy, Debug, PartialEq, Eq)]
 pub enum Inclusion {
-    Contained {
-        reached: usize,
-    },
-    Missing {
-        reached: usize,
-        prefix: usize,
-        period: usize,
-    },
+    Contained { reached: usize },
+    Missing { reached: usize, prefix: usize, period: usize },
 }
 
-/// A node of a search by its place in the queue: the node it was met from and the letter between them.
+/// How a search met a node: from which node (by its place in the queue) and by which letter.
 #[derive(Clone, Copy, Default)]
 struct Step {
     from: u16,
-    letter: u8,
+    letter: u16,
 }
+
+/// A combination in the queue: its pair, its two progress states taken together, the step to it.
+#[derive(Clone, Copy, Default)]
+struct Node {
+    pair: u16,
+    progress: u16,
+    step: Step,
+}
+
+/// What is known of a combination.
+const NEW: u8 = 0;
+const MET: u8 = 1;
+const WANTED_AND_NEW: u8 = 2;
 
 /// All the room that a comparison needs, allocated once.
 pub struct Search {
@@ -43,10 +50,9 @@ pub struct Search {
     /// Progress states of the pair at hand, taken two together: rows of next ones, and which are marked in the first sheet only.
     progress_next: Vec<u16>,
     wanted: Vec<bool>,
-    /// Combinations of a pair and two progress states: the queue, the step to each, and which were met.
-    queue: Vec<(u16, u16)>,
-    steps: Vec<Step>,
-    met: Vec<bool>,
+    /// Combinations of a pair and two progress states: the queue, and what is known of each.
+    nodes: Vec<Node>,
+    signs: Vec<u8>,
 }
 
 impl Default for Search {
@@ -59,9 +65,8 @@ impl Default for Search {
             pair_number: vec![0; PAIRS],
             progress_next: vec![0; PAIRS * MOST],
             wanted: vec![false; PAIRS],
-            queue: vec![(0, 0); CELLS],
-            steps: vec![Step::default(); CELLS],
-            met: vec![false; CELLS],
+            nodes: vec![Node::default(); CELLS + 1],
+            signs: vec![NEW; CELLS],
         }
     }
 }
@@ -78,35 +83,31 @@ impl Search {
         let first = Sheet::read(first, Part::First)?;
         let second = Sheet::read(second, Part::Second)?;
         if first.letters != second.letters {
-            return Err(Refusal {
-                number: 7,
-                part: Part::Second,
-                place: 0,
-            });
+            return Err(Refusal { number: 7, part: Part::Second, place: 0 });
         }
         let pairs = first.states * second.states;
         let cells = pairs + pairs * first.largest_size() * second.largest_size();
         if cells > CELLS {
-            return Err(Refusal {
-                number: 22,
-                part: Part::Work,
-                place: cells,
-            });
+            return Err(Refusal { number: 22, part: Part::Work, place: cells });
         }
         self.letters = first.letters;
         let reached = self.reach_pairs(&first, &second);
         for start in 0..reached {
             let size = self.take_progress(&first, &second, start);
+            if !self.wanted[..size].contains(&true) {
+                continue;
+            }
             if let Some(found) = self.search_from(start, size, reached) {
                 let (prefix, period) = self.hand_over(start, found, prefix, period)?;
-                return Ok(Inclusion::Missing {
-                    reached,
-                    prefix,
-                    period,
-                });
+                return Ok(Inclusion::Missing { reached, prefix, period });
             }
         }
         Ok(Inclusion::Contained { reached })
+    }
+
+    /// How many combinations the last search of a pair met.
+    pub fn combinations_met(&self) -> usize {
+        self.signs.iter().filter(|&&sign| sign == MET).count()
     }
 
     /// Finds the pairs of leading states that some prefix reaches, in the order of their first prefixes, and answers how many.
@@ -127,10 +128,7 @@ impl Search {
                 if *number == PAIRS as u16 {
                     *number = tail as u16;
                     self.pairs[tail] = (next1, next2);
-                    self.pair_steps[tail] = Step {
-                        from: head as u16,
-                        letter: letter as u8,
-                    };
+                    self.pair_steps[tail] = Step { from: head as u16, letter: letter as u16 };
                     tail += 1;
                 }
                 *next = *number;
@@ -163,29 +161,28 @@ impl Search {
     /// Searches the periods of one pair; answers where in the queue the first wanted combination stands.
     fn search_from(&mut self, start: usize, size: usize, reached: usize) -> Option<usize> {
         let letters = self.letters;
-        let met = &mut self.met[..reached * size];
-        met.fill(false);
+        let signs = &mut self.signs[..reached * size];
+        signs.fill(NEW);
+        for (sign, &wanted) in signs[start * size..].iter_mut().zip(&self.wanted[..size]) {
+            *sign = if wanted { WANTED_AND_NEW } else { NEW };
+        }
         // The start is in the queue but not met: only a period that is not empty meets it.
-        self.queue[0] = (start as u16, 0);
+        self.nodes[0] = Node { pair: start as u16, ..Node::default() };
         let (mut head, mut tail) = (0, 1);
         while head < tail {
-            let (pair, progress) = self.queue[head];
+            let Node { pair, progress, .. } = self.nodes[head];
             let pair_row = &self.pair_next[pair as usize * letters..][..letters];
             let progress_row = &self.progress_next[progress as usize * letters..][..letters];
             for (letter, (&pair, &progress)) in pair_row.iter().zip(progress_row).enumerate() {
-                let met = &mut met[pair as usize * size + progress as usize];
-                if !*met {
-                    *met = true;
-                    self.queue[tail] = (pair, progress);
-                    self.steps[tail] = Step {
-                        from: head as u16,
-                        letter: letter as u8,
-                    };
-                    if pair as usize == start && self.wanted[progress as usize] {
-                        return Some(tail);
-                    }
-                    tail += 1;
+                let sign = &mut signs[pair as usize * size + progress as usize];
+                // The node is written in any case and stays if the combination is new: a branch on that would be hard to foresee.
+                let step = Step { from: head as u16, letter: letter as u16 };
+                self.nodes[tail] = Node { pair, progress, step };
+                if *sign == WANTED_AND_NEW {
+                    return Some(tail);
                 }
+                tail += (*sign == NEW) as usize;
+                *sign = MET;
             }
             head += 1;
         }
@@ -200,41 +197,36 @@ impl Search {
         prefix: &mut [u8],
         period: &mut [u8],
     ) -> Result<(usize, usize), Refusal> {
-        let lengths = (word_length(&self.pair_steps, pair), word_length(&self.steps, found));
+        let pair_step = |node: usize| self.pair_steps[node];
+        let step = |node: usize| self.nodes[node].step;
+        let lengths = (word_length(pair, pair_step), word_length(found, step));
         if prefix.len() < lengths.0 {
-            return Err(Refusal {
-                number: 23,
-                part: Part::Opening,
-                place: lengths.0,
-            });
+            return Err(Refusal { number: 23, part: Part::Opening, place: lengths.0 });
         }
         if period.len() < lengths.1 {
-            return Err(Refusal {
-                number: 23,
-                part: Part::Loop,
-                place: lengths.1,
-            });
+            return Err(Refusal { number: 23, part: Part::Loop, place: lengths.1 });
         }
-        fill_word(&self.pair_steps, pair, &mut prefix[..lengths.0]);
-        fill_word(&self.steps, found, &mut period[..lengths.1]);
+        fill_word(pair, pair_step, &mut prefix[..lengths.0]);
+        fill_word(found, step, &mut period[..lengths.1]);
         Ok(lengths)
     }
 }
 
 /// How many steps lead from node 0 of a search to a node.
-fn word_length(steps: &[Step], mut node: usize) -> usize {
+fn word_length(mut node: usize, step: impl Fn(usize) -> Step) -> usize {
     let mut length = 0;
     while node != 0 {
-        node = steps[node].from as usize;
+        node = step(node).from as usize;
         length += 1;
     }
     length
 }
 
 /// Writes the letters of those steps, the last one first.
-fn fill_word(steps: &[Step], mut node: usize, word: &mut [u8]) {
+fn fill_word(mut node: usize, step: impl Fn(usize) -> Step, word: &mut [u8]) {
     for letter in word.iter_mut().rev() {
-        *letter = steps[node].letter;
-        node = steps[node].from as usize;
+        let Step { from, letter: by } = step(node);
+        *letter = by as u8;
+        node = from as usize;
     }
 }

@@ -9,14 +9,7 @@ pub const COMPARE_BYTES: usize = 72;
 
 pub fn verdict_answer(result: &Result<Verdict, Refusal>) -> [u8; VERDICT_BYTES] {
     pack(match result {
-        Ok(given) => vec![
-            0,
-            given.accepted as usize,
-            given.before,
-            given.turns,
-            given.leading,
-            given.end,
-        ],
+        Ok(given) => vec![0, given.accepted as usize, given.before, given.turns, given.leading, given.end],
         Err(refusal) => refused(refusal),
     })
 }
@@ -24,11 +17,7 @@ pub fn verdict_answer(result: &Result<Verdict, Refusal>) -> [u8; VERDICT_BYTES] 
 pub fn compare_answer(result: &Result<Inclusion, Refusal>) -> [u8; COMPARE_BYTES] {
     pack(match *result {
         Ok(Inclusion::Contained { reached }) => vec![0, 0, reached],
-        Ok(Inclusion::Missing {
-            reached,
-            prefix,
-            period,
-        }) => vec![0, 1, reached, prefix, period],
+        Ok(Inclusion::Missing { reached, prefix, period }) => vec![0, 1, reached, prefix, period],
         Err(ref refusal) => refused(refusal),
     })
 }

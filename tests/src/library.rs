@@ -57,18 +57,12 @@ impl<'a> From<&'a mut [u8]> for BytesMut<'a> {
 
 pub fn verdict(sheet: Bytes, prefix: Bytes, period: Bytes, answer: BytesMut) -> u32 {
     // The slices are alive, and the one that is written overlaps no other since it is lent exclusively.
-    unsafe {
-        fdfa_verdict(
-            sheet.0, sheet.1, prefix.0, prefix.1, period.0, period.1, answer.0, answer.1,
-        )
-    }
+    unsafe { fdfa_verdict(sheet.0, sheet.1, prefix.0, prefix.1, period.0, period.1, answer.0, answer.1) }
 }
 
 pub fn compare(first: Bytes, second: Bytes, prefix: BytesMut, period: BytesMut, answer: BytesMut) -> u32 {
     // As above, for three slices that are written.
     unsafe {
-        fdfa_compare(
-            first.0, first.1, second.0, second.1, prefix.0, prefix.1, period.0, period.1, answer.0, answer.1,
-        )
+        fdfa_compare(first.0, first.1, second.0, second.1, prefix.0, prefix.1, period.0, period.1, answer.0, answer.1)
     }
 }

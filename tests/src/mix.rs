@@ -33,22 +33,9 @@ fn damaged(random: &mut Random, mut sheet: Vec<u8>) -> Vec<u8> {
         }
         choice => {
             let reach = if choice == 3 { length.min(2 + MOST) } else { length };
-            let at = if choice == 4 {
-                random.below(2)
-            } else {
-                random.below(reach)
-            };
+            let at = if choice == 4 { random.below(2) } else { random.below(reach) };
             let other = random.byte();
-            sheet[at] = random.pick(&[
-                sheet[at].wrapping_add(1),
-                sheet[at].wrapping_sub(1),
-                0,
-                2,
-                32,
-                33,
-                255,
-                other,
-            ]);
+            sheet[at] = random.pick(&[sheet[at].wrapping_add(1), sheet[at].wrapping_sub(1), 0, 2, 32, 33, 255, other]);
         }
     }
     sheet
@@ -132,14 +119,8 @@ fn near_the_limit(random: &mut Random) -> (&'static str, Draft, Draft) {
         let leading = generate::table(random, shape, letters, states);
         let shape = random.pick(&generate::SHAPES);
         let marks = |random: &mut Random| (0..size).map(|_| random.once_in(2) as u8).collect();
-        let progress = (0..states)
-            .map(|_| (generate::table(random, shape, letters, size), marks(random)))
-            .collect();
-        Draft {
-            letters,
-            leading,
-            progress,
-        }
+        let progress = (0..states).map(|_| (generate::table(random, shape, letters, size), marks(random))).collect();
+        Draft { letters, leading, progress }
     };
     ("near 8,192 cells", draft(states1, size1), draft(states2, size2))
 }

@@ -25,11 +25,7 @@ impl Family {
             let next = (0..size).map(|_| take(letters)).collect();
             progress.push((next, take(size).iter().map(|&mark| mark == 1).collect()));
         }
-        Family {
-            letters,
-            leading,
-            progress,
-        }
+        Family { letters, leading, progress }
     }
 
     pub fn states(&self) -> usize {
@@ -191,11 +187,7 @@ mod tests {
                     assert_eq!(tried, None);
                     contained += all as usize;
                 }
-                Inclusion::Missing {
-                    reached,
-                    prefix: length1,
-                    period: length2,
-                } => {
+                Inclusion::Missing { reached, prefix: length1, period: length2 } => {
                     assert_eq!(reached, reached_pairs(&family1, &family2));
                     let lasso: Lasso = (u[..length1].to_vec(), v[..length2].to_vec());
                     assert!(is_counterexample(&family1, &family2, &lasso.0, &lasso.1));

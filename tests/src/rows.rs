@@ -26,12 +26,7 @@ pub fn rows() -> Vec<Row> {
 
 fn verdict_row(name: &'static str, sheet: &[u8], prefix: &[u8], period: &[u8], numbers: &[usize]) -> Row {
     let case = Case::verdict(sheet, prefix, period);
-    Row {
-        name,
-        case,
-        numbers: numbers.to_vec(),
-        words: (Vec::new(), Vec::new()),
-    }
+    Row { name, case, numbers: numbers.to_vec(), words: (Vec::new(), Vec::new()) }
 }
 
 fn verdict_rows() -> Vec<Row> {
@@ -73,32 +68,15 @@ fn sheet_rows() -> Vec<Row> {
         verdict_row("a size of 33", &[1, 2, 33, 0], &[], &[0], &[4, 0, 2]),
         verdict_row("one byte too many", &longer, &[], &[0], &[1, 0, 12]),
         verdict_row("a leading next place", &[2, 1, 1, 0, 1, 1, 0, 2], &[], &[0], &[5, 0, 4]),
-        verdict_row(
-            "a loop automaton's next place",
-            &[2, 1, 1, 0, 0, 0, 1, 2],
-            &[],
-            &[0],
-            &[5, 0, 6],
-        ),
+        verdict_row("a loop automaton's next place", &[2, 1, 1, 0, 0, 0, 1, 2], &[], &[0], &[5, 0, 6]),
         verdict_row("a mark", &[2, 1, 1, 0, 0, 0, 0, 2], &[], &[0], &[6, 0, 7]),
-        verdict_row(
-            "a mark before a next place",
-            &[1, 2, 1, 1, 0, 0, 0, 9, 9, 9],
-            &[],
-            &[0],
-            &[6, 0, 7],
-        ),
+        verdict_row("a mark before a next place", &[1, 2, 1, 1, 0, 0, 0, 9, 9, 9], &[], &[0], &[6, 0, 7]),
     ]
 }
 
 fn compare_row(name: &'static str, sheets: [&[u8]; 2], room: [usize; 2], numbers: &[usize], words: [&[u8]; 2]) -> Row {
     let case = Case::compare(sheets[0], sheets[1], room[0], room[1]);
-    Row {
-        name,
-        case,
-        numbers: numbers.to_vec(),
-        words: (words[0].to_vec(), words[1].to_vec()),
-    }
+    Row { name, case, numbers: numbers.to_vec(), words: (words[0].to_vec(), words[1].to_vec()) }
 }
 
 fn compare_rows() -> Vec<Row> {
@@ -110,44 +88,20 @@ fn compare_rows() -> Vec<Row> {
     let full: [&[u8]; 2] = [&cycle(8, 17, true), &cycle(4, 15, true)];
     vec![
         compare_row("A in B", [A, B], [3, 3], &[0, 1, 1, 0, 1], [&[], &[1]]),
-        compare_row(
-            "A in B, just enough room",
-            [A, B],
-            [0, 1],
-            &[0, 1, 1, 0, 1],
-            [&[], &[1]],
-        ),
+        compare_row("A in B, just enough room", [A, B], [0, 1], &[0, 1, 1, 0, 1], [&[], &[1]]),
         compare_row("A in B, no room for the loop", [A, B], [5, 0], &[23, 3, 1], none),
         compare_row("B in A", [B, A], [3, 3], &[0, 0, 1], none),
         compare_row("D in C", [D, C], [3, 3], &[0, 0, 2], none),
         compare_row("E in D, which marks all", [E, D], [9, 9], &[0, 0, 3], none),
-        compare_row(
-            "D in E: place 2 marks nothing",
-            [D, E],
-            [9, 9],
-            &[0, 1, 3, 2, 2],
-            [&[0, 0], &[0, 0]],
-        ),
+        compare_row("D in E: place 2 marks nothing", [D, E], [9, 9], &[0, 1, 3, 2, 2], [&[0, 0], &[0, 0]]),
         compare_row("D in E, short opening", [D, E], [1, 0], &[23, 2, 2], none),
         compare_row("D in E, short loop", [D, E], [2, 1], &[23, 3, 2], none),
         compare_row("scene counts differ", [A, C], [3, 3], &[7, 1, 0], none),
         compare_row("first before second", [&bad_mark, &[9]], [3, 3], &[6, 0, 7], none),
         compare_row("second before 7", [C, &bad_mark], [3, 3], &[6, 1, 7], none),
         compare_row("8,224 cells", wide, [0, 0], &[22, 5, 8224], none),
-        compare_row(
-            "8,192 cells: 8 x 17 is no multiple of 15",
-            full,
-            [9, 135],
-            &[23, 3, 136],
-            none,
-        ),
-        compare_row(
-            "6,951 cells, a loop of 6,944",
-            cycles,
-            [0, 6944],
-            &[0, 1, 7, 0, 6944],
-            [&[], &zeros],
-        ),
+        compare_row("8,192 cells: 8 x 17 is no multiple of 15", full, [9, 135], &[23, 3, 136], none),
+        compare_row("6,951 cells, a loop of 6,944", cycles, [0, 6944], &[0, 1, 7, 0, 6944], [&[], &zeros]),
         compare_row("one scene too few for it", cycles, [0, 6943], &[23, 3, 6944], none),
     ]
 }
@@ -176,10 +130,8 @@ mod tests {
         for row in rows() {
             let due = checker.due(&row.case);
             let answer = due.slices.last().unwrap();
-            let mut numbers: Vec<usize> = answer
-                .chunks_exact(8)
-                .map(|cell| u64::from_le_bytes(cell.try_into().unwrap()) as usize)
-                .collect();
+            let mut numbers: Vec<usize> =
+                answer.chunks_exact(8).map(|cell| u64::from_le_bytes(cell.try_into().unwrap()) as usize).collect();
             while numbers.len() > row.numbers.len() && numbers.last() == Some(&0) {
                 numbers.pop();
             }

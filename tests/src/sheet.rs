@@ -65,12 +65,7 @@ impl<'a> Sheet<'a> {
         if bytes.len() != end {
             return refuse(1, bytes.len());
         }
-        let sheet = Sheet {
-            bytes,
-            letters,
-            states,
-            starts,
-        };
+        let sheet = Sheet { bytes, letters, states, starts };
         match sheet.first_fault() {
             Some((number, place)) => refuse(number, place),
             None => Ok(sheet),
@@ -80,9 +75,7 @@ impl<'a> Sheet<'a> {
     /// The first byte that is no next state (5) or no mark (6), if there is one.
     fn first_fault(&self) -> Option<(usize, usize)> {
         let beyond = |from: usize, count: usize, limit: usize| {
-            let fault = self.bytes[from..from + count]
-                .iter()
-                .position(|&byte| byte as usize >= limit);
+            let fault = self.bytes[from..from + count].iter().position(|&byte| byte as usize >= limit);
             fault.map(|at| from + at)
         };
         if let Some(place) = beyond(2 + self.states, self.states * self.letters, self.states) {
@@ -112,19 +105,13 @@ impl<'a> Sheet<'a> {
 
     pub fn leading(&self) -> Automaton<'a> {
         let start = 2 + self.states;
-        Automaton {
-            next: &self.bytes[start..start + self.states * self.letters],
-            marks: &[],
-        }
+        Automaton { next: &self.bytes[start..start + self.states * self.letters], marks: &[] }
     }
 
     pub fn progress(&self, state: usize) -> Automaton<'a> {
         let size = self.size(state);
         let (next, rest) = self.bytes[self.starts[state]..].split_at(size * self.letters);
-        Automaton {
-            next,
-            marks: &rest[..size],
-        }
+        Automaton { next, marks: &rest[..size] }
     }
 }
 

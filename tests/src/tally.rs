@@ -77,20 +77,14 @@ impl Tally {
     }
 
     pub fn of_call(&self, call: Call) -> usize {
-        self.kinds
-            .iter()
-            .filter(|((of, _), _)| *of == call)
-            .map(|(_, count)| count)
-            .sum()
+        self.kinds.iter().filter(|((of, _), _)| *of == call).map(|(_, count)| count).sum()
     }
 
     /// The outcomes that every run must have and that this one has not.
     pub fn lacking(&self) -> Vec<String> {
         let due = DUE_OF_VERDICT.iter().map(|label| (Call::Verdict, label.to_string()));
         let due = due.chain(DUE_OF_COMPARE.iter().map(|label| (Call::Compare, label.to_string())));
-        due.filter(|key| !self.outcomes.contains_key(key))
-            .map(|(call, label)| format!("{call:?}: {label}"))
-            .collect()
+        due.filter(|key| !self.outcomes.contains_key(key)).map(|(call, label)| format!("{call:?}: {label}")).collect()
     }
 }
 
@@ -114,12 +108,7 @@ impl fmt::Display for Tally {
 /// How the slices were lent.
 fn lending_labels(case: &Case) -> Vec<String> {
     let mut labels = Vec::new();
-    let has = |wanted| {
-        case.slices
-            .iter()
-            .zip(&case.placements)
-            .any(|(slice, &at)| slice.is_empty() && at == wanted)
-    };
+    let has = |wanted| case.slices.iter().zip(&case.placements).any(|(slice, &at)| slice.is_empty() && at == wanted);
     if has(Placement::Null) {
         labels.push("NULL pointer".to_string());
     }

@@ -17,11 +17,7 @@ pub fn verdict(sheet: &[u8], prefix: &[u8], period: &[u8]) -> Result<Verdict, Re
     let sheet = Sheet::read(sheet, Part::First)?;
     check_letters(prefix, sheet.letters, Part::Opening)?;
     if period.is_empty() {
-        return Err(Refusal {
-            number: 8,
-            part: Part::Loop,
-            place: 0,
-        });
+        return Err(Refusal { number: 8, part: Part::Loop, place: 0 });
     }
     check_letters(period, sheet.letters, Part::Loop)?;
 
@@ -43,13 +39,7 @@ pub fn verdict(sheet: &[u8], prefix: &[u8], period: &[u8]) -> Result<Verdict, Re
     let progress = sheet.progress(leading);
     let table = Table::new(progress, sheet.letters);
     let end = (0..turns).fold(0, |state, _| table.walk(state, period)) as usize;
-    Ok(Verdict {
-        accepted: progress.marks[end] == 1,
-        before,
-        turns,
-        leading,
-        end,
-    })
+    Ok(Verdict { accepted: progress.marks[end] == 1, before, turns, leading, end })
 }
 
 /// Refusal 9 at the first letter that is out of range. Blocks are judged by their largest letter, which takes vector instructions.
@@ -57,15 +47,8 @@ fn check_letters(word: &[u8], letters: usize, part: Part) -> Result<(), Refusal>
     const BLOCK: usize = 4096;
     for (block, chunk) in word.chunks(BLOCK).enumerate() {
         if chunk.iter().fold(0, |most, &letter| letter.max(most)) as usize >= letters {
-            let at = chunk
-                .iter()
-                .position(|&letter| letter as usize >= letters)
-                .expect("the largest is");
-            return Err(Refusal {
-                number: 9,
-                part,
-                place: block * BLOCK + at,
-            });
+            let at = chunk.iter().position(|&letter| letter as usize >= letters).expect("the largest is");
+            return Err(Refusal { number: 9, part, place: block * BLOCK + at });
         }
     }
     Ok(())
@@ -87,8 +70,7 @@ impl Table {
 
     /// The state after a word whose letters are in range.
     fn walk(&self, from: u8, word: &[u8]) -> u8 {
-        word.iter()
-            .fold(from, |state, &letter| self.0[letter as usize % MOST][state as usize])
+        word.iter().fold(from, |state, &letter| self.0[letter as usize % MOST][state as usize])
     }
 }
 
@@ -111,10 +93,7 @@ mod tests {
             let period = random.word(period_length, sheet.letters);
             let given = verdict(&sheet.pack(), &prefix, &period).unwrap();
             assert_eq!((given.before, given.turns), family.closing_numbers(&prefix, &period));
-            assert_eq!(
-                (given.accepted, given.leading, given.end),
-                family.judge(&prefix, &period)
-            );
+            assert_eq!((given.accepted, given.leading, given.end), family.judge(&prefix, &period));
             before += (given.before > 0) as usize;
             turns += (given.turns > 1) as usize;
         }
@@ -127,13 +106,7 @@ mod tests {
         for at in [0, 1, 4095, 4096, 4097, 9999] {
             let mut word = vec![2; 10_000];
             word[at] = 3;
-            let refused = |part| {
-                Err(Refusal {
-                    number: 9,
-                    part,
-                    place: at,
-                })
-            };
+            let refused = |part| Err(Refusal { number: 9, part, place: at });
             assert_eq!(verdict(&sheet, &word, &[]), refused(Part::Opening));
             assert_eq!(verdict(&sheet, &[0], &word), refused(Part::Loop));
         }

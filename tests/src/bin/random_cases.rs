@@ -47,9 +47,7 @@ fn all_cases(seed: u64, cases: usize) -> Result<(), String> {
     let mut checker = Checker::default();
     let rows = rows();
     for row in &rows {
-        checker
-            .check(&row.case)
-            .map_err(|fault| format!("row {}: {fault}\n{}", row.name, describe(&row.case)))?;
+        checker.check(&row.case).map_err(|fault| format!("row {}: {fault}\n{}", row.name, describe(&row.case)))?;
     }
     let mut tally = Tally::default();
     let mut seeds = Random::new(seed);
@@ -60,9 +58,7 @@ fn all_cases(seed: u64, cases: usize) -> Result<(), String> {
         let outcome = outcome.map_err(|fault| format!("case {index}, seed {seed}: {fault}\n{}", describe(&case)))?;
         tally.add(&case, outcome);
         if (index + 1) % SWEEP == 0 {
-            checker
-                .sweep()
-                .map_err(|fault| format!("case {index} or up to {SWEEP} before: {fault}"))?;
+            checker.sweep().map_err(|fault| format!("case {index} or up to {SWEEP} before: {fault}"))?;
         }
     }
     checker.sweep()?;
@@ -72,10 +68,7 @@ fn all_cases(seed: u64, cases: usize) -> Result<(), String> {
         return Err(format!("never met: {}", lacking.join("; ")));
     }
     let seconds = began.elapsed().as_secs_f64();
-    println!(
-        "{} rows and {cases} cases of seed {seed} agree ({seconds:.1} s)",
-        rows.len()
-    );
+    println!("{} rows and {cases} cases of seed {seed} agree ({seconds:.1} s)", rows.len());
     Ok(())
 }
 
@@ -95,11 +88,7 @@ fn describe(case: &Case) -> String {
     for ((name, slice), placement) in case.names().iter().zip(&case.slices).zip(&case.placements) {
         let shown: Vec<String> = slice.iter().take(MOST_SHOWN).map(u8::to_string).collect();
         let rest = if slice.len() > MOST_SHOWN { " .." } else { "" };
-        text += &format!(
-            "{name} ({} bytes, {placement:?}): {}{rest}\n",
-            slice.len(),
-            shown.join(" ")
-        );
+        text += &format!("{name} ({} bytes, {placement:?}): {}{rest}\n", slice.len(), shown.join(" "));
     }
     text
 }
