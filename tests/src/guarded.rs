@@ -146,6 +146,13 @@ impl Region {
         self.verify_canaries(self.lent.end..self.capacity)
     }
 
+    /// Reads one byte, counted from the lent slice's start, be it accessible or not. For the self-test.
+    pub fn touch(&self, at: isize) -> u8 {
+        // Within the mapping: what is not accessible ends the program.
+        assert!((-(PAGE as isize)..(self.capacity + PAGE) as isize).contains(&(self.lent.start as isize + at)));
+        unsafe { ptr::read_volatile(self.base.add(PAGE + self.lent.start).offset(at)) }
+    }
+
     /// Changes one byte, counted from the lent slice's start; answers whether there is such a byte. For the self-test.
     pub fn damage(&mut self, at: isize) -> bool {
         let at = self.lent.start as isize + at;

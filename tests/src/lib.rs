@@ -2,10 +2,12 @@
 //!
 //! `sheet`, `verdict` and `inclusion` are the independent implementation; `naive` tries all short lassos and checks `inclusion`.
 //! `library` calls the static library, on slices that `guarded` lends; `layout` has the bytes of the answers that are due.
-//! `generate`, `mix` and `case` make sheets and cases at random, `rows` has those of the papers, `check` runs one and compares all bytes.
+//! `generate`, `mix` and `case` make sheets and cases at random, `rows` has those of the papers, `check` runs one and compares all bytes,
+//! `tally` counts them, and `crash` names the one that broke off.
 
 pub mod case;
 pub mod check;
+pub mod crash;
 pub mod generate;
 pub mod guarded;
 pub mod inclusion;

@@ -74,9 +74,10 @@ pub fn sheet_pair(random: &mut Random) -> (&'static str, Vec<u8>, Vec<u8>) {
 /// Two sheets, one or both of them at fault.
 fn faulty_pair(random: &mut Random) -> (&'static str, Vec<u8>, Vec<u8>) {
     let (first, second) = (generate::sheet(random).pack(), generate::sheet(random).pack());
-    match random.below(8) {
+    match random.below(10) {
         0..=2 => ("first damaged", damaged(random, first), second),
         3..=5 => ("second damaged", first, damaged(random, second)),
+        8..=9 => ("both damaged", damaged(random, first), damaged(random, second)),
         6 => ("first garbage", garbage(random), second),
         _ => ("second garbage", first, garbage(random)),
     }

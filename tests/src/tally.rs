@@ -4,6 +4,7 @@ use crate::case::{Call, Case};
 use crate::check::Outcome;
 use crate::guarded::Placement;
 use crate::inclusion::Inclusion;
+use crate::sheet::{Part, Sheet};
 use std::collections::BTreeMap;
 use std::fmt;
 
@@ -30,7 +31,7 @@ const DUE_OF_VERDICT: [&str; 20] = [
     "answer slice longer than needed",
 ];
 
-const DUE_OF_COMPARE: [&str; 27] = [
+const DUE_OF_COMPARE: [&str; 28] = [
     "contained",
     "missing",
     "refused 1 First",
@@ -45,6 +46,7 @@ const DUE_OF_COMPARE: [&str; 27] = [
     "refused 4 Second",
     "refused 5 Second",
     "refused 6 Second",
+    "both sheets at fault",
     "refused 7 Second",
     "refused 22 Work",
     "refused 23 Opening",
@@ -158,7 +160,12 @@ fn outcome_labels(case: &Case, outcome: Outcome) -> Vec<String> {
             let exact = case.slices[2].len() == prefix && case.slices[3].len() == period;
             add(exact, "both slices exactly as long as the show");
         }
-        Outcome::Refused(number, part) => add(true, &format!("refused {number} {part:?}")),
+        Outcome::Refused(number, part) => {
+            add(true, &format!("refused {number} {part:?}"));
+            let sheets = [(0, Part::First), (1, Part::Second)];
+            let both = sheets.iter().all(|&(at, part)| Sheet::read(&case.slices[at], part).is_err());
+            add(case.call == Call::Compare && both, "both sheets at fault");
+        }
         Outcome::AnswerTooShort => add(true, "returned 0"),
     }
     labels

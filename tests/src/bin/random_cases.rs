@@ -3,13 +3,16 @@
 //! random_cases [--cases N] [--seed N]   the rows, then N cases; prints how many there were of each kind and outcome
 //! random_cases --case SEED              the one case of that seed, with its bytes
 //! random_cases --self-test              damages what the calls leave, byte by byte; each damage must be found
+//! random_cases --touch AT               reads a byte at AT from the start of a slice of 8 bytes between two inaccessible pages
 
 use outside::case::Case;
 use outside::check::{Checker, Damage};
+use outside::crash;
+use outside::guarded::{Placement, Region};
 use outside::random::Random;
 use outside::rows::rows;
 use outside::tally::Tally;
-use std::process::ExitCode;
+use std::process::{Command, ExitCode};
 use std::time::Instant;
 
 const CASES: usize = 500_000;
@@ -20,8 +23,10 @@ const SWEEP: usize = 1000;
 fn main() -> ExitCode {
     let words: Vec<String> = std::env::args().skip(1).collect();
     let words: Vec<&str> = words.iter().map(String::as_str).collect();
+    crash::watch();
     let result = match words.as_slice() {
-        ["--self-test"] => self_test(),
+        ["--self-test"] => self_test().and_then(|()| touch_all()),
+        ["--touch", at] => at.parse().map_err(|_| format!("{at} is no number")).map(touch),
         ["--case", seed] => number(seed).and_then(one_case),
         [] => all_cases(SEED, CASES),
         ["--seed", seed] => number(seed).and_then(|seed| all_cases(seed, CASES)),
@@ -53,6 +58,7 @@ fn all_cases(seed: u64, cases: usize) -> Result<(), String> {
     let mut seeds = Random::new(seed);
     for index in 0..cases {
         let seed = seeds.draw();
+        crash::now_running(seed);
         let case = Case::random(seed, &mut checker.search);
         let outcome = checker.check(&case);
         let outcome = outcome.map_err(|fault| format!("case {index}, seed {seed}: {fault}\n{}", describe(&case)))?;
@@ -74,6 +80,7 @@ fn all_cases(seed: u64, cases: usize) -> Result<(), String> {
 
 fn one_case(seed: u64) -> Result<(), String> {
     let mut checker = Checker::default();
+    crash::now_running(seed);
     let case = Case::random(seed, &mut checker.search);
     print!("{}", describe(&case));
     let outcome = checker.check(&case)?;
@@ -129,4 +136,28 @@ fn damages(case: &Case) -> Vec<Damage> {
         damages.extend([-100, -2, -1, length - 1, length, length + 1, length + 100].map(|at| Damage::Slice(index, at)));
     }
     damages
+}
+
+/// Lends a slice that touches the inaccessible page after it (or, for a negative number, before it) and reads a byte.
+fn touch(at: isize) {
+    let mut region = Region::new(1);
+    region.lend(&[0; 8], if at < 0 { Placement::Start } else { Placement::End });
+    crash::now_running(at.unsigned_abs() as u64);
+    println!("read {}", region.touch(at));
+}
+
+/// Touches bytes in and around a slice, each in a program of its own: one beyond the slice must break it off and be told.
+fn touch_all() -> Result<(), String> {
+    let program = std::env::current_exe().map_err(|fault| fault.to_string())?;
+    for (at, accessible) in [(0, true), (7, true), (8, false), (9, false), (-1, false), (-64, false)] {
+        let run =
+            Command::new(&program).args(["--touch", &at.to_string()]).output().map_err(|fault| fault.to_string())?;
+        let printed = String::from_utf8_lossy(&run.stdout).into_owned();
+        let told = printed.starts_with("FAILED: crashed by signal ") && !run.status.success();
+        if told == accessible {
+            return Err(format!("touching byte {at}: {printed}"));
+        }
+    }
+    println!("6 bytes touched; those beyond the slice broke the program off");
+    Ok(())
 }
