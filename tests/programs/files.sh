@@ -40,9 +40,10 @@ judge 'refused, source and target are one: it stays' cmp "$top/bad" bad
 # sources that are not there, empty or cannot be read
 : > empty
 mkdir folder
-for source in missing empty folder '' none/source; do
-    refuses "source '$source'" "$nothing" 0 "$source" none
-    judge "source '$source': no target is made" test ! -e none
+long_name=$(head -c 5000 /dev/zero | tr '\0' a)
+for source in missing empty folder '' none/source "$long_name"; do
+    refuses "source '${source:0:20}'" "$nothing" 0 "$source" none
+    judge "source '${source:0:20}': no target is made" test ! -e none
 done
 if [ "$(id -u)" -eq 0 ]; then
     skip 'a source that may not be read, a target that may not be written: root may'
@@ -74,7 +75,6 @@ judge 'wrong arguments: no target is made' test ! -e none
 expect 'a folder as the target' '' "folder: Is a directory$nl" run good folder
 expect 'a target in no folder' '' "none/target: No such file or directory$nl" run good none/target
 expect 'an empty name as the target' '' ": No such file or directory$nl" run good ''
-long_name=$(head -c 5000 /dev/zero | tr '\0' a)
 expect 'a name that is too long' '' "TARGET: File name too long$nl" run good "$long_name"
 expect 'a target that grows too large' '' "cut: File too large$nl" limited good cut
 judge 'a target that grows too large: it is removed' test ! -e cut

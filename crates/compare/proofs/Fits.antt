@@ -17,7 +17,8 @@ use Rattle.inclusion.specs.declared.Answer.the-variants.{Found}
 use Rattle.inclusion.specs.declared.Comparison.{Comparison}
 use Rattle.inclusion.specs.Answers.{Said, toldOf, saysOf, roomFault, Answered}
 
-abbrev Within : Comparison → ℕ → ℕ → Type 0
+-- The lengths of a show are at most these.
+abbrev pub Within : Comparison → ℕ → ℕ → Type 0
 Within z o p = (z .prefix ≤ o) × (z .period ≤ p)
 
 abbrev False : Bool → Type 0
@@ -25,7 +26,9 @@ False true = ⊥
 False false = Unit {0}
 
 -- Where nothing is refused and something is found, both parts of it fit.
-within : (w : Witness) (o p r : ℕ) {z : Comparison} → roomFault w o p ≡ sound → record { none = false; record-of = z } ≡ toldOf r w → Within z o p
+within :
+    (w : Witness) (o p r : ℕ) {z : Comparison}
+    → roomFault w o p ≡ sound → record { none = false; record-of = z } ≡ toldOf r w → Within z o p
 within absent o p r s e = absurd (subst False (ap (λ (x : Said). x .none) e) tt)
 within (lasso u v) o p r s e =
     let f = when (ltb o (length u)) 23 Opening (length u) in

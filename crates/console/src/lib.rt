@@ -14,7 +14,7 @@ pub use printing::print_number;
 pub use printing::print_refusal;
 
 // The longest file that a program takes. One byte more is read, to tell that a file is longer.
-pub const LONGEST: usize = 65536;
+const LONGEST: usize = 65536;
 
 pub const ROOM: usize = LONGEST + 1;
 

@@ -25,6 +25,7 @@ fn run(source: &[u8], target: &[u8]) {
     }
 }
 
+// A SOURCE that is too long to be a name counts as missing.
 fn main() {
     if os::arg_count() != 3 {
         io::write_all(libc::STDERR_FILENO, b"usage: pack SOURCE TARGET\n");

@@ -1,18 +1,22 @@
 -- `compare::compare` is safe: a show that was found fits the slices that it is printed from. Assumes nothing.
 use mathlib.Core.Path.{sym}
-use Prim.Native.Nat.{_≤_}
 use native.Mathlib.Omega.{arith}
 use lib.ListN.{length}
 use lib.Seq.{length-take-le}
 use borrow.Author.Needs.{needs}
-use Rattle.compare.proofs.Fits.{fits}
+use Rattle.compare.proofs.Fits.{Within, fits}
 use Rattle.compare.proofs.compare.Statement.{statement}
 use Rattle.compare.proofs.compare.Tie as tie
 
+abbrev called : tie.After-answer2 → tie.After-compare
+called c = c .before .before .before .before .before
+
 -- both parts of the show that was found lie within the slices
-room : (c : tie.After-answer2) → let z = c .answer2 .given .0 .0 in let e = c .before .before .before .before .before in (z .prefix ≤ length (e .compare .last .1 .1 .0)) × (z .period ≤ length (e .compare .last .1 .1 .1 .0))
+room :
+    (c : tie.After-answer2)
+    → let e = called c in Within (c .answer2 .given .0 .0) (length (e .compare .last .1 .1 .0)) (length (e .compare .last .1 .1 .1 .0))
 room c =
-    let e = c .before .before .before .before .before in
+    let e = called c in
     let f = fits (e .compare .ensures .0) (c .answer2 .given .1) in
     (omega (arith, f .0, e .compare .kept .1 .1 .0), omega (arith, f .1, e .compare .kept .1 .1 .1 .0))
 
@@ -71,7 +75,8 @@ array-share-prefix-period : tie.Need-array-share-prefix-period
 array-share-prefix-period c = room (c .before .before .before .before .before .before .before .before .before) .1
 
 slice-aggregate-print-scenes-4 : tie.Need-slice-aggregate-print-scenes-4
-slice-aggregate-print-scenes-4 c = sym (length-take-le _ _ (room (c .before .before .before .before .before .before .before .before .before .before) .1))
+slice-aggregate-print-scenes-4 c =
+    sym (length-take-le _ _ (room (c .before .before .before .before .before .before .before .before .before .before) .1))
 
 print-scenes-requires-2 : tie.Need-print-scenes-requires-2
 print-scenes-requires-2 c κs = search needs
