@@ -1,0 +1,55 @@
+-- `compare::print_scenes` is safe and ends. Assumes nothing.
+use Prim.Native.Nat.{_≤_, _-_}
+use lib.ListN.{length}
+use borrow.Author.Needs.{needs}
+use Rattle.compare.proofs.print_scenes.Statement.{statement}
+use Rattle.compare.proofs.print_scenes.Tie as tie
+
+abbrev Inv-loop : tie.InvT-loop
+Inv-loop part scenes i₀ i = i ≤ length scenes
+
+abbrev μ-loop : tie.MeasureT-loop
+μ-loop part scenes i₀ i = length scenes - i
+
+loop-holds : tie.Need-loop-holds Inv-loop μ-loop
+loop-holds c = search needs
+
+print-requires : tie.Need-print-requires Inv-loop μ-loop
+print-requires c κs = search needs
+
+shared-slice-read-wide : tie.Need-shared-slice-read-wide Inv-loop μ-loop
+shared-slice-read-wide c = search needs
+
+wide-requires : tie.Need-wide-requires Inv-loop μ-loop
+wide-requires c κs = search needs
+
+print-number-requires : tie.Need-print-number-requires Inv-loop μ-loop
+print-number-requires c κs = search needs
+
+add-i : tie.Need-add-i Inv-loop μ-loop
+add-i c = search needs
+
+loop-less : tie.Need-loop-less Inv-loop μ-loop
+loop-less c = search needs
+
+loop-again : tie.Need-loop-again Inv-loop μ-loop
+loop-again c = search needs
+
+returns : tie.Need-returns Inv-loop μ-loop
+returns c = search needs
+
+pub print-scenes-spec : {M : Type 1} → statement M
+print-scenes-spec =
+    tie.close
+    (tie.spec
+    Inv-loop
+    μ-loop
+    loop-holds
+    print-requires
+    shared-slice-read-wide
+    wide-requires
+    print-number-requires
+    add-i
+    loop-less
+    loop-again
+    returns)

@@ -1,0 +1,65 @@
+-- `pack::pack` is safe: what was filled fits the slice that it is saved from. Assumes nothing.
+use mathlib.Core.Path.{ap, sym, _∙_}
+use Prim.Native.Nat.{_≤_}
+use lib.ListN.{length}
+use lib.Seq.{length-take-le}
+use denote.Ref.{now}
+use native.Mathlib.Omega.{arith}
+use Rattle.notation.specs.Reading.{judged, faultOf, bytesOf, saysOf}
+use Rattle.console.proofs.Room.{fits}
+use borrow.Author.Needs.{needs}
+use Rattle.pack.proofs.pack.Statement.{statement}
+use Rattle.pack.proofs.pack.Tie as tie
+
+-- what was filled lies within the slice
+room : (c : tie.After-answer2) → c .answer2 .given .0 .0 ≤ length (c .before .before .before .read .last .1 .0)
+room c =
+    let e = c .before .before .before in
+    let t = now (e .before .before .before .before .args .source) in
+    let h = fits (faultOf (judged t)) _ (length (bytesOf t)) (sym (ap saysOf (c .answer2 .given .1)) ∙ e .read .ensures .0) in
+    omega (arith, h, e .read .kept .1 .0)
+
+slice-aggregate-read : tie.Need-slice-aggregate-read
+slice-aggregate-read c = search needs
+
+read-requires : tie.Need-read-requires
+read-requires c κs = search needs
+
+enum-known-answer : tie.Need-enum-known-answer
+enum-known-answer c = search needs
+
+print-refusal-requires : tie.Need-print-refusal-requires
+print-refusal-requires c κs = search needs
+
+enum-known-answer-2 : tie.Need-enum-known-answer-2
+enum-known-answer-2 c = search needs
+
+array-share-prefix-out : tie.Need-array-share-prefix-out
+array-share-prefix-out c = room (c .before)
+
+slice-aggregate-save : tie.Need-slice-aggregate-save
+slice-aggregate-save c = sym (length-take-le _ _ (room (c .before .before)))
+
+save-requires : tie.Need-save-requires
+save-requires c κs = search needs
+
+returns : tie.Need-returns
+returns c = search needs
+
+returns-2 : tie.Need-returns-2
+returns-2 c = search needs
+
+pub pack-spec : {M : Type 1} → statement M
+pack-spec =
+    tie.close
+    (tie.spec
+    slice-aggregate-read
+    read-requires
+    enum-known-answer
+    print-refusal-requires
+    enum-known-answer-2
+    array-share-prefix-out
+    slice-aggregate-save
+    save-requires
+    returns
+    returns-2)
