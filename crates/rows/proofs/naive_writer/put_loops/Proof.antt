@@ -1,0 +1,52 @@
+-- `rows::naive_writer::put_loops` is safe and ends. Assumes nothing.
+use borrow.Author.Needs.{needs}
+use lib.ListN.{length}
+use Prim.Native.Nat.{_-_}
+use mathlib.Core.Path.{_≡_}
+use Rattle.rows.proofs.naive_writer.put_loops.Statement.{statement}
+use Rattle.rows.proofs.naive_writer.put_loops.Tie as tie
+
+abbrev Inv-loop : tie.InvT-loop
+Inv-loop b out₀ to n next₀ q₀ out next q = length out ≡ length out₀
+
+abbrev μ-loop : tie.MeasureT-loop
+μ-loop b out₀ to n next₀ q₀ out next q = n - q
+
+loop-holds : tie.Need-loop-holds Inv-loop μ-loop
+loop-holds c = search needs
+
+loops-requires : tie.Need-loops-requires Inv-loop μ-loop
+loops-requires c κs = search needs
+
+put-loop-requires : tie.Need-put-loop-requires Inv-loop μ-loop
+put-loop-requires c κs = search needs
+
+add-q : tie.Need-add-q Inv-loop μ-loop
+add-q c = search needs
+
+loop-less : tie.Need-loop-less Inv-loop μ-loop
+loop-less c = search needs
+
+loop-again : tie.Need-loop-again Inv-loop μ-loop
+loop-again c = search needs
+
+same-length : tie.Need-same-length Inv-loop μ-loop
+same-length c = search needs
+
+returns : tie.Need-returns Inv-loop μ-loop
+returns c = search needs
+
+pub put-loops-spec : {M : Type 1} → statement M
+put-loops-spec =
+    tie.close
+    (tie.spec
+    Inv-loop
+    μ-loop
+    loop-holds
+    loops-requires
+    put-loop-requires
+    add-q
+    loop-less
+    loop-again
+    same-length
+    returns)
