@@ -10,7 +10,7 @@ use Rattle.search.proofs.Phases.{Target}
 use Rattle.search.proofs.Lassos.{Ends}
 use Rattle.inclusion.specs.declared.Beside.{Beside}
 use Rattle.inclusion.specs.declared.Progress.{Progress}
-use Rattle.inclusion.specs.Tables.{stepOf, progressOf, ends, target, ProgressReads, Joint, Twin, twin}
+use Rattle.inclusion.specs.Tables.{stepOf, progressOf, ends, target, ProgressReads, Steps, Joint, Rows, Tabled, Twin, twin}
 use Rattle.inclusion.proofs.Twins.{few-pairs, pair-reads, pair-joint, pair-some, pair-few}
 use Rattle.inclusion.proofs.Targets.{target-says, says-target}
 
@@ -40,6 +40,13 @@ module _ {b c : List ℕ} {t : Beside} {n : ℕ} (T : Twin b c t n) {q : ℕ} (h
   joint-at d =
       subst (Joint b c t (g .tables) (g .count)) (sym d)
       (subst (λ (x : Progress). Joint b c t (x .tables) (x .count) (n * x .count)) (sym e) (pair-joint T q h))
+
+  -- with a table of each kind of pair
+  pub tabled-at : {m : ℕ} {leads rows : List ℕ} → m ≡ n * g .count → Rows b c t n leads → Rows b c (g .tables) (g .count) rows → Tabled b c t (g .tables) (g .count) m leads rows
+  tabled-at d r s = record { joint = joint-at d; pairs = n; all = d; few-pairs = few-pairs T; few-progress = few-at; of-leads = r; of-progress = s }
+
+  pub steps-at : Steps b c (g .tables) (g .count)
+  steps-at = joint-at refl .progresses
 
   -- no ending counts
   pub skipped : ((y : ℕ) → y < g .count → ends b c g y ≡ true → ⊥) → (y : ℕ) → y < twin b c t n .size q → Ends (twin b c t n) q y → ⊥

@@ -54,6 +54,27 @@ pub record Joint (b c : List ℕ) (t p : Beside) (count m : ℕ) : Type 0 where
   pub leads : Steps b c t states
   pub progresses : Steps b c p count
 
+-- The first s cells from a place on have the next pairs of the pair p, and the cells before that place are as they were.
+pub record RowWritten (b c : List ℕ) (t : Beside) (p from s : ℕ) (out out′ : List ℕ) : Type 0 where
+  pub long : length out′ ≡ length out
+  pub own : (a : ℕ) → a < s → getD out′ (from + a) 0 ≡ stepOf b c t p a
+  pub before : (i : ℕ) → i < from → getD out′ i 0 ≡ getD out i 0
+
+-- A table of the next pairs of the first `count` pairs, row after row.
+pub record Rows (b c : List ℕ) (t : Beside) (count : ℕ) (r : List ℕ) : Type 0 where
+  pub long : length r ≡ 32768
+  pub steps : (p a : ℕ) → p < count → a < t .letters → getD r (p * t .letters + a) 0 ≡ stepOf b c t p a
+
+-- The same combinations, with a table of each kind of pair.
+pub record Tabled (b c : List ℕ) (t p : Beside) (count m : ℕ) (leads rows : List ℕ) : Type 0 where
+  pub joint : Joint b c t p count m
+  pub pairs : ℕ
+  pub all : m ≡ pairs * count
+  pub few-pairs : pairs ≤ 1024
+  pub few-progress : count ≤ 1024
+  pub of-leads : Rows b c t pairs leads
+  pub of-progress : Rows b c p count rows
+
 -- Two valid sheets with the same letters, and the tables of their leading automata.
 pub record Twin (b c : List ℕ) (t : Beside) (n : ℕ) : Type 0 where
   pub first-valid : Valid b

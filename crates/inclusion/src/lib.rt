@@ -1,8 +1,11 @@
 // Inclusion of two sheets with the first counterexample, and emptiness of one, by a breadth-first search in lent cells.
+mod tabulating; // tabulating.rt: pairs of states as one table
+
 use fdfa::Part;
 use fdfa::Refusal;
 use packed::Validities;
 use packed::Validity;
+use tabulating::tabulate;
 ghost use mathlib.Core.Path.{_≡_};
 ghost use mathlib.Core.Bool.{true, false};
 ghost use Prim.Native.Nat.{ℕ, _+_, _*_, _/_, _%_, _<_};
@@ -12,7 +15,7 @@ ghost use Rattle.fdfa.specs.Inclusion.{comparison, emptiness};
 ghost use Rattle.packed.specs.Layout.{letterCount, stateCount, tableStep, decode, Valid};
 ghost use Rattle.search.specs.Cells.{stateAt};
 ghost use Rattle.search.specs.Search.{Search, Expanded};
-ghost use Rattle.inclusion.specs.Tables.{besideNothing, stepOf, progressOf, ends, PairReads, ProgressReads, Steps, Joint, Twin, twin, target};
+ghost use Rattle.inclusion.specs.Tables.{besideNothing, stepOf, progressOf, ends, PairReads, ProgressReads, Steps, Tabled, Twin, twin, target};
 ghost use Rattle.inclusion.specs.Search.{Room, Right, CanTell, Tells, Decided};
 ghost use Rattle.inclusion.specs.Answers.{Answered, startFault, cellsFor, Meets, emptyStart, emptyCells, MeetsEmpty};
 
@@ -90,36 +93,39 @@ fn expand_leads(
     codes
 }
 
-// Expands a combination x of a pair of leading states and one of the `count` pairs of progress states.
+fn wide(x: u16) -> usize
+    ensures { λ r. ⌜ r ≡ x ⌝ }
+{
+    x as usize
+}
+
+// Expands a combination x of a pair of leading states and a pair of progress states, by the tables that were
+// made of both kinds of pairs. The sheets themselves are named for the contract only.
 fn expand(
     first: &[u8],
     second: &[u8],
     t: Beside,
-    p: Beside,
-    count: usize,
+    g: Progress,
+    leads: &[u16],
+    rows: &[u16],
     root: usize,
     x: usize,
     cells: &mut [u64],
     head: usize,
     total: usize,
 ) -> usize
-    requires { ⌜ Joint (now first) (now second) t p count (length (now cells)) ⌝ }
-    requires { ⌜ Search (beside count (stepOf (now first) (now second) t) (stepOf (now first) (now second) p)) root (t .letters) 1 (length (now cells)) (now cells) total head 0 ⌝ }
+    requires { ⌜ Tabled (now first) (now second) t (g .tables) (g .count) (length (now cells)) (now leads) (now rows) ⌝ }
+    requires { ⌜ Search (beside (g .count) (stepOf (now first) (now second) t) (stepOf (now first) (now second) (g .tables))) root (t .letters) 1 (length (now cells)) (now cells) total head 0 ⌝ }
     requires { ⌜ (head < total) × (x ≡ stateAt root (now cells) head) ⌝ }
-    ensures { λ r. ⌜ Expanded (beside count (stepOf (now (first .entry)) (now (second .entry)) t) (stepOf (now (first .entry)) (now (second .entry)) p)) root (t .letters) 1 (length (now (cells .entry))) (now (cells .entry)) total head (now (cells .exit)) r ⌝ }
+    ensures { λ r. ⌜ Expanded (beside (g .count) (stepOf (now (first .entry)) (now (second .entry)) t) (stepOf (now (first .entry)) (now (second .entry)) (g .tables))) root (t .letters) 1 (length (now (cells .entry))) (now (cells .entry)) total head (now (cells .exit)) r ⌝ }
 {
-    let q = x / count;
-    let l = x % count;
-    let qx = q / t.width;
-    let qy = q % t.width;
-    let lx = l / p.width;
-    let ly = l % p.width;
+    let lead = x / g.count * t.letters;
+    let progress = x % g.count * t.letters;
     let mut codes = total;
     let mut a = 0;
     while a < t.letters {
-        let lead = next_pair(first, second, t, qx, qy, a);
-        let progress = next_pair(first, second, p, lx, ly, a);
-        codes = search::discover(cells, codes, lead * count + progress, a, head);
+        let next = wide(leads[lead + a]) * g.count + wide(rows[progress + a]);
+        codes = search::discover(cells, codes, next, a, head);
         a += 1;
     }
     codes
@@ -203,6 +209,9 @@ fn find(first: &[u8], second: &[u8], t: Beside, n: usize, work: &mut [u64]) -> O
     ensures { λ r. ⌜ Right (twin (now (first .entry)) (now (second .entry)) t n) (now (work .exit)) r ⌝ }
 {
     let reached = reach(first, second, t, &mut work[..n]);
+    let mut leads = [0u16; 32768];
+    tabulate(first, second, t, n, &mut leads);
+    let mut rows = [0u16; 32768];
     let mut out = Outcome::Contained(reached);
     let mut i = 0;
     'search: while i < reached {
@@ -212,6 +221,7 @@ fn find(first: &[u8], second: &[u8], t: Beside, n: usize, work: &mut [u64]) -> O
             i += 1;
             continue;
         }
+        tabulate(first, second, g.tables, g.count, &mut rows);
         let root = q * g.count;
         let end = n + n * g.count;
         search::clear(&mut work[n..end]);
@@ -227,8 +237,9 @@ fn find(first: &[u8], second: &[u8], t: Beside, n: usize, work: &mut [u64]) -> O
                 first,
                 second,
                 t,
-                g.tables,
-                g.count,
+                g,
+                &leads,
+                &rows,
                 root,
                 x,
                 &mut work[n..end],

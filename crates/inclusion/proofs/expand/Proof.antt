@@ -1,123 +1,193 @@
 -- `inclusion::expand` meets its contract. Assumes nothing.
-use mathlib.Core.Path.{_≡_, refl, ap, ap₂, sym, subst, _∙_}
+use mathlib.Core.Path.{_≡_, ap, ap₂, sym, subst, _∙_}
 use Prim.Native.Nat.{ℕ, _+_, _*_, _-_, _/_, _%_, _≤_, _<_}
 use native.Mathlib.Omega.{arith}
-use native.Mathlib.Nat.{mod-lt}
+use native.Mathlib.Nat.{mod-lt, mul-le-mul, mul-le-mul-right}
 use denote.Ref.{now}
-use lib.ListN.{length}
+use lib.Arith.{digits-lt}
+use lib.ListN.{length, getD}
 use Rattle.fdfa.specs.Family.{Closed}
 use Rattle.fdfa.specs.Boolean.{beside}
 use Rattle.fdfa.proofs.Product.{left-below, beside-closed}
 use Rattle.search.proofs.Expand.{Expanding, expand-start, expand-inside, expand-ready, expand-more, expand-end}
-use Rattle.inclusion.specs.Tables.{stepOf, Steps, Joint}
+use Rattle.inclusion.specs.Tables.{stepOf, Steps, Joint, Rows, Tabled}
 use borrow.Author.Needs.{needs}
 use Rattle.inclusion.proofs.expand.Statement.{statement}
 use Rattle.inclusion.proofs.expand.Tie as tie
 
 abbrev Inv-loop : tie.InvT-loop
-Inv-loop first second t p count root x cells₀ head total q l qx qy lx ly codes₀ a₀ cells codes a =
-    Expanding (beside count (stepOf first second t) (stepOf first second p)) root (t .letters) 1 (length cells₀) cells₀ total cells codes head a x
+Inv-loop first second t g leads rows root x cells₀ head total lead progress codes₀ a₀ cells codes a =
+    Expanding (beside (g .count) (stepOf first second t) (stepOf first second (g .tables))) root (t .letters) 1 (length cells₀) cells₀ total cells codes head a x
 
 abbrev μ-loop : tie.MeasureT-loop
-μ-loop first second t p count root x cells₀ head total q l qx qy lx ly codes₀ a₀ cells codes a = t .letters - a
+μ-loop first second t g leads rows root x cells₀ head total lead progress codes₀ a₀ cells codes a = t .letters - a
 
 abbrev start : tie.At-loop Inv-loop μ-loop → tie.Start Inv-loop μ-loop
-start c = c .before .before .before .before .before .before .before .before
+start c = c .before .before .before .before .before .before .before .before .before .before
 
-abbrev joint : (s : tie.Start Inv-loop μ-loop) → Joint (now (s .args .first)) (now (s .args .second)) (s .args .t) (s .args .p) (s .args .count) (length (now (s .args .cells)))
-joint s = s .pre .0
+abbrev TabledAt : tie.Start Inv-loop μ-loop → Type 0
+TabledAt s =
+    Tabled (now (s .args .first)) (now (s .args .second)) (s .args .t) (s .args .g .tables) (s .args .g .count) (length (now (s .args .cells))) (now (s .args .leads)) (now (s .args .rows))
 
-inside : (c : tie.At-loop Inv-loop μ-loop) → start c .args .x < joint (start c) .states * start c .args .count
+tabled : (s : tie.Start Inv-loop μ-loop) → TabledAt s
+tabled s = s .pre .0
+
+abbrev joint : (s : tie.Start Inv-loop μ-loop) → Joint (now (s .args .first)) (now (s .args .second)) (s .args .t) (s .args .g .tables) (s .args .g .count) (length (now (s .args .cells)))
+joint s = tabled s .joint
+
+inside : (c : tie.At-loop Inv-loop μ-loop) → start c .args .x < joint (start c) .states * start c .args .g .count
 inside c =
     let s = start c in
     omega (arith, joint s .all, expand-inside _ _ _ _ _ _ _ _ (joint s .leads .few-letters) _ _ (c .loop .inv) (joint s .few))
 
-lead-in : (c : tie.At-loop Inv-loop μ-loop) → start c .args .x / start c .args .count < joint (start c) .states
+lead-in : (c : tie.At-loop Inv-loop μ-loop) → start c .args .x / start c .args .g .count < joint (start c) .states
 lead-in c = left-below (joint (start c) .some) (inside c)
 
-progress-in : (c : tie.At-loop Inv-loop μ-loop) → start c .args .x % start c .args .count < start c .args .count
+pair-in : (c : tie.At-loop Inv-loop μ-loop) → start c .args .x / start c .args .g .count < tabled (start c) .pairs
+pair-in c = let s = start c in left-below (joint s .some) (omega (arith, inside c, joint s .all, tabled s .all))
+
+progress-in : (c : tie.At-loop Inv-loop μ-loop) → start c .args .x % start c .args .g .count < start c .args .g .count
 progress-in c = mod-lt (start c .args .x) (joint (start c) .some)
 
--- the combination that the letter leads to
-stepped : (c : tie.After-next-pair2 Inv-loop μ-loop) → let l = c .before .before .before .before in
-    beside (start l .args .count) (stepOf (now (start l .args .first)) (now (start l .args .second)) (start l .args .t)) (stepOf (now (start l .args .first)) (now (start l .args .second)) (start l .args .p)) (start l .args .x) (l .loop .a)
-    ≡ c .before .next-pair .result * start l .args .count + c .next-pair2 .result
-stepped c =
-    let l = c .before .before .before .before in
-    sym (ap₂ (λ (y z : ℕ). y * start l .args .count + z) (c .before .next-pair .ensures) (c .next-pair2 .ensures))
+-- a cell of a table
+cell-few : (m s q a : ℕ) → m ≤ 1024 → s ≤ 32 → q < m → a < s → q * s + a < 32768
+cell-few m s q a h l k i = let most : m * s ≤ 1024 * 32 = mul-le-mul h l in omega (arith, digits-lt k i)
 
-next-in : (c : tie.After-next-pair2 Inv-loop μ-loop) → let l = c .before .before .before .before in
-    c .before .next-pair .result * start l .args .count + c .next-pair2 .result < length (now (start l .args .cells))
+lead-cell : (c : tie.Then1 Inv-loop μ-loop) → let l = c .before .before in start l .args .x / start l .args .g .count * start l .args .t .letters + l .loop .a < 32768
+lead-cell c =
+    let l = c .before .before in
+    let s = start l in
+    cell-few (tabled s .pairs) _ _ (l .loop .a) (tabled s .few-pairs) (joint s .leads .few-letters) (pair-in l) (c .if1 .taken)
+
+progress-cell : (c : tie.Then1 Inv-loop μ-loop) → let l = c .before .before in start l .args .x % start l .args .g .count * start l .args .t .letters + l .loop .a < 32768
+progress-cell c =
+    let l = c .before .before in
+    let s = start l in
+    cell-few (s .args .g .count) _ _ (l .loop .a) (tabled s .few-progress) (joint s .leads .few-letters) (progress-in l) (c .if1 .taken)
+
+-- the combination that the letter leads to
+stepped : (c : tie.After-wide2 Inv-loop μ-loop) → let w = c .before .before .before in let l = w .before .before .before .before in
+    beside (start l .args .g .count) (stepOf (now (start l .args .first)) (now (start l .args .second)) (start l .args .t)) (stepOf (now (start l .args .first)) (now (start l .args .second)) (start l .args .g .tables)) (start l .args .x) (l .loop .a)
+    ≡ w .wide .result * start l .args .g .count + c .wide2 .result
+stepped c =
+    let w = c .before .before .before in
+    let d = w .before .before in
+    let l = d .before .before in
+    let s = start l in
+    let a : l .loop .a < s .args .t .letters = d .if1 .taken in
+    sym (ap₂ (λ (y z : ℕ). y * s .args .g .count + z)
+    (w .wide .ensures ∙ tabled s .of-leads .steps _ _ (pair-in l) a)
+    (c .wide2 .ensures
+    ∙ (ap (λ (k : ℕ). getD (now (s .args .rows)) (s .args .x % s .args .g .count * k + l .loop .a) 0) (sym (joint s .alike)) ∙ tabled s .of-progress .steps _ _ (progress-in l) (omega (arith, joint s .alike)))))
+
+next-in : (c : tie.After-wide2 Inv-loop μ-loop) → let w = c .before .before .before in let l = w .before .before .before .before in
+    w .wide .result * start l .args .g .count + c .wide2 .result < length (now (start l .args .cells))
 next-in c =
-    let l = c .before .before .before .before in
+    let d = c .before .before .before .before .before in
+    let l = d .before .before in
     let j = joint (start l) in
-    let a : l .loop .a < start l .args .t .letters = c .before .before .if1 .taken in
+    let a : l .loop .a < start l .args .t .letters = d .if1 .taken in
     omega (
       arith,
       stepped c,
       j .all,
-      beside-closed (j .some) (j .leads .closed) (subst (λ (s : ℕ). Closed s (start l .args .count) (stepOf (now (start l .args .first)) (now (start l .args .second)) (start l .args .p))) (j .alike) (j .progresses .closed)) (start l .args .x) (l .loop .a) (inside l) a,
+      beside-closed (j .some) (j .leads .closed) (subst (λ (s : ℕ). Closed s (start l .args .g .count) (stepOf (now (start l .args .first)) (now (start l .args .second)) (start l .args .g .tables))) (j .alike) (j .progresses .closed)) (start l .args .x) (l .loop .a) (inside l) a,
     )
 
-div-q : tie.Need-div-q Inv-loop μ-loop
-div-q c = c .before .before .before .pre .0 .some
+div-lead : tie.Need-div-lead Inv-loop μ-loop
+div-lead c = joint (c .before .before .before .before .before .before) .some
 
-rem-l : tie.Need-rem-l Inv-loop μ-loop
-rem-l c = c .before .before .before .pre .0 .some
-
-div-qx : tie.Need-div-qx Inv-loop μ-loop
-div-qx c = c .before .before .before .before .pre .0 .leads .wide
-
-rem-qy : tie.Need-rem-qy Inv-loop μ-loop
-rem-qy c = c .before .before .before .before .before .pre .0 .leads .wide
-
-div-lx : tie.Need-div-lx Inv-loop μ-loop
-div-lx c = c .before .before .before .before .before .before .pre .0 .progresses .wide
-
-rem-ly : tie.Need-rem-ly Inv-loop μ-loop
-rem-ly c = c .before .before .before .before .before .before .before .pre .0 .progresses .wide
-
-loop-holds : tie.Need-loop-holds Inv-loop μ-loop
-loop-holds c =
-    let s = c .before .before .before .before .before .before .before in
+-- at the start
+begun : (s : tie.Start Inv-loop μ-loop) →
+    Expanding (beside (s .args .g .count) (stepOf (now (s .args .first)) (now (s .args .second)) (s .args .t)) (stepOf (now (s .args .first)) (now (s .args .second)) (s .args .g .tables))) (s .args .root) (s .args .t .letters) 1 (length (now (s .args .cells))) (now (s .args .cells)) (s .args .total) (now (s .args .cells)) (s .args .total) (s .args .head) 0 (s .args .x)
+begun s =
     rw (s .pre .1 .1 .1) (expand-start _ _ _ _ _ _ _ _ (joint s .leads .few-letters) (s .pre .1 .0) (joint s .few) (s .pre .1 .1 .0))
 
-next-pair-requires : tie.Need-next-pair-requires Inv-loop μ-loop
-next-pair-requires c κs = let l = c .before .before in (joint (start l) .leads .reads _ (lead-in l), c .if1 .taken)
+few-lead : (s : tie.Start Inv-loop μ-loop) → s .args .x / s .args .g .count * s .args .t .letters ≤ 32768
+few-lead s =
+    let x-in : s .args .x < tabled s .pairs * s .args .g .count = omega (arith, tabled s .all, expand-inside _ _ _ _ _ _ _ _ (joint s .leads .few-letters) _ _ (begun s) (joint s .few)) in
+    let l : s .args .x / s .args .g .count ≤ 1024 = omega (arith, left-below (joint s .some) x-in, tabled s .few-pairs) in
+    mul-le-mul l (joint s .leads .few-letters)
 
-next-pair-requires-2 : tie.Need-next-pair-requires-2 Inv-loop μ-loop
-next-pair-requires-2 c κs =
-    let i = c .before in
-    let l = i .before .before in
-    (joint (start l) .progresses .reads _ (progress-in l), omega (arith, joint (start l) .alike, i .if1 .taken))
+few-progress : (s : tie.Start Inv-loop μ-loop) → s .args .x % s .args .g .count * s .args .t .letters ≤ 32768
+few-progress s =
+    let l : s .args .x % s .args .g .count ≤ 1024 = omega (arith, mod-lt (s .args .x) (joint s .some), tabled s .few-progress) in
+    mul-le-mul l (joint s .leads .few-letters)
 
-mul-discover : tie.Need-mul-discover Inv-loop μ-loop
-mul-discover c = omega (arith, next-in (c .before), joint (start (c .before .before .before .before .before)) .few)
+mul-lead : tie.Need-mul-lead Inv-loop μ-loop
+mul-lead c = omega (arith, few-lead (c .before .before .before .before .before .before .before))
 
-add-discover : tie.Need-add-discover Inv-loop μ-loop
-add-discover c = omega (arith, next-in (c .before), joint (start (c .before .before .before .before .before)) .few)
+rem-progress : tie.Need-rem-progress Inv-loop μ-loop
+rem-progress c = joint (c .before .before .before .before .before .before .before .before) .some
+
+mul-progress : tie.Need-mul-progress Inv-loop μ-loop
+mul-progress c = omega (arith, few-progress (c .before .before .before .before .before .before .before .before .before))
+
+loop-holds : tie.Need-loop-holds Inv-loop μ-loop
+loop-holds c = begun (c .before .before .before .before .before .before .before .before .before)
+
+add-wide : tie.Need-add-wide Inv-loop μ-loop
+add-wide c = omega (arith, lead-cell c)
+
+mul-wide : tie.Need-mul-wide Inv-loop μ-loop
+mul-wide c = omega (arith, lead-cell c)
+
+shared-slice-read-wide : tie.Need-shared-slice-read-wide Inv-loop μ-loop
+shared-slice-read-wide c = let d = c .before in omega (arith, lead-cell d, tabled (start (d .before .before)) .of-leads .long)
+
+wide-requires : tie.Need-wide-requires Inv-loop μ-loop
+wide-requires c κs = tt
+
+mul-next : tie.Need-mul-next Inv-loop μ-loop
+mul-next c =
+    let w = c .before in
+    let d = w .before .before in
+    let l = d .before .before in
+    let s = start l in
+    let lead : w .wide .result < joint s .states = omega (arith, w .wide .ensures ∙ tabled s .of-leads .steps _ _ (pair-in l) (d .if1 .taken), joint s .leads .closed _ _ (lead-in l) (d .if1 .taken)) in
+    let few : w .wide .result ≤ 1048576 = omega (arith, joint s .leads .few) in
+    let most : w .wide .result * s .args .g .count ≤ 1048576 * 1024 = mul-le-mul few (tabled s .few-progress) in
+    omega arith
+
+add-wide-2 : tie.Need-add-wide-2 Inv-loop μ-loop
+add-wide-2 c = omega (arith, progress-cell (c .before .before .before))
+
+mul-wide-2 : tie.Need-mul-wide-2 Inv-loop μ-loop
+mul-wide-2 c = omega (arith, progress-cell (c .before .before .before))
+
+shared-slice-read-wide-2 : tie.Need-shared-slice-read-wide-2 Inv-loop μ-loop
+shared-slice-read-wide-2 c =
+    let d = c .before .before .before .before in
+    omega (arith, progress-cell d, tabled (start (d .before .before)) .of-progress .long)
+
+wide-requires-2 : tie.Need-wide-requires-2 Inv-loop μ-loop
+wide-requires-2 c κs = tt
+
+add-next : tie.Need-add-next Inv-loop μ-loop
+add-next c = omega (arith, next-in c, joint (start (c .before .before .before .before .before .before .before)) .few)
 
 discover-requires : tie.Need-discover-requires Inv-loop μ-loop
 discover-requires c κs =
-    let i = c .before .before .before in
-    let l = i .before .before in
+    let w = c .before in
+    let d = w .before .before .before .before .before in
+    let l = d .before .before in
     let s = start l in
-    expand-ready _ _ _ _ _ _ _ _ (joint s .leads .few-letters) _ _ (l .loop .inv) (joint s .few) _ (i .if1 .taken) (next-in (c .before))
+    expand-ready _ _ _ _ _ _ _ _ (joint s .leads .few-letters) _ _ (l .loop .inv) (joint s .few) _ (d .if1 .taken) (next-in w)
 
 add-a : tie.Need-add-a Inv-loop μ-loop
-add-a c = omega arith
+add-a c = search needs
 
 loop-less : tie.Need-loop-less Inv-loop μ-loop
-loop-less c = omega arith
+loop-less c = search needs
 
 loop-again : tie.Need-loop-again Inv-loop μ-loop
 loop-again c =
-    let d = c .before .before in
-    let w = d .before .before in
-    let i = w .before .before in
-    let l = i .before .before in
+    let e = c .before .before in
+    let w = e .before .before in
+    let d = w .before .before .before .before .before in
+    let l = d .before .before in
     let s = start l in
-    expand-more _ _ _ _ _ _ _ _ (joint s .leads .few-letters) _ _ (l .loop .inv) (joint s .few) _ (i .if1 .taken) (stepped w) (next-in w) (d .discover .ensures)
+    expand-more _ _ _ _ _ _ _ _ (joint s .leads .few-letters) _ _ (l .loop .inv) (joint s .few) _ (d .if1 .taken) (stepped w) (next-in w) (e .discover .ensures)
 
 same-length : tie.Need-same-length Inv-loop μ-loop
 same-length c = c .before .before .loop .inv .search .size
@@ -134,17 +204,21 @@ expand-spec =
     (tie.spec
     Inv-loop
     μ-loop
-    div-q
-    rem-l
-    div-qx
-    rem-qy
-    div-lx
-    rem-ly
+    div-lead
+    mul-lead
+    rem-progress
+    mul-progress
     loop-holds
-    next-pair-requires
-    next-pair-requires-2
-    mul-discover
-    add-discover
+    add-wide
+    mul-wide
+    shared-slice-read-wide
+    wide-requires
+    mul-next
+    add-wide-2
+    mul-wide-2
+    shared-slice-read-wide-2
+    wide-requires-2
+    add-next
     discover-requires
     add-a
     loop-less

@@ -4,7 +4,7 @@ use mathlib.Core.Bool.{true, false}
 use Prim.Native.Nat.{ℕ, _+_, _*_, _-_, _/_, _%_, _≤_, _<_}
 use native.Mathlib.Omega.{arith}
 use denote.Ref.{now}
-use lib.ListN.{length, take, drop}
+use lib.ListN.{length, take, drop, length-replicate}
 use lib.Seq.{length-take-le}
 use borrow.Author.Tests.{not-true, not-false}
 use Rattle.fdfa.specs.Family.{Fdfa}
@@ -18,37 +18,38 @@ use Rattle.inclusion.specs.declared.Outcome.the-variants.{Contained}
 use Rattle.inclusion.specs.Tables.{progressOf, Steps, Twin, twin}
 use Rattle.inclusion.specs.Search.{Right}
 use Rattle.inclusion.proofs.Twins.{twin-complete, lead-steps, some-width, some-pairs, few-pairs, first-half, second-half, pair-room, searchable}
-use Rattle.inclusion.proofs.Finding.{count-is, step-is, reads-at, some-at, few-at, all-few, root-few, joint-at, skipped, hit, missed}
+use Rattle.inclusion.proofs.Finding.{count-is, step-is, reads-at, some-at, few-at, all-few, root-few, steps-at, tabled-at, skipped, hit, missed}
 use borrow.Author.Needs.{needs}
 use Rattle.inclusion.proofs.find.Statement.{statement}
 use Rattle.inclusion.proofs.find.Tie as tie
 
 abbrev Inv-loop : tie.InvT-loop
-Inv-loop first second t n work₀ reached out₀ i q g root end total₀ h₀ work out total h =
+Inv-loop first second t n work₀ reached leads rows out₀ i q g root end total₀ h₀ work out total h =
     (length work ≡ length work₀)
     × (out ≡ Contained reached)
     × Inner (twin first second t n .step) (twin first second t n .progress) (twin first second t n .size) (Ends (twin first second t n)) (t .letters) n work reached i q total h
 
 abbrev μ-loop : tie.MeasureT-loop
-μ-loop first second t n work₀ reached out₀ i q g root end total₀ h₀ work out total h = n * twin first second t n .size q + 1 - h
+μ-loop first second t n work₀ reached leads rows out₀ i q g root end total₀ h₀ work out total h = n * twin first second t n .size q + 1 - h
 
 abbrev Inv-search : tie.InvT-search
-Inv-search first second t n work₀ reached out₀ i₀ work out i =
+Inv-search first second t n work₀ reached leads rows₀ out₀ i₀ work rows out i =
     (length work ≡ length work₀)
     × (out ≡ Contained reached)
     × Outer (twin first second t n .step) (twin first second t n .progress) (twin first second t n .size) (Ends (twin first second t n)) (t .letters) n work reached i
+    × (length rows ≡ 32768)
 
 abbrev μ-search : tie.MeasureT-search
-μ-search first second t n work₀ reached out₀ i₀ work out i = reached - i
+μ-search first second t n work₀ reached leads rows₀ out₀ i₀ work rows out i = reached - i
 
 abbrev begin : tie.At-search Inv-loop μ-loop Inv-search μ-search → tie.Start Inv-loop μ-loop Inv-search μ-search
-begin c = c .before .before .before .before .before .before .before .before
+begin c = c .before .before .before .before .before .before .before .before .before .before .before
 
 abbrev FamAt : tie.Start Inv-loop μ-loop Inv-search μ-search → Fdfa
 FamAt s = twin (now (s .args .first)) (now (s .args .second)) (s .args .t) (s .args .n)
 
 abbrev OuterAt : tie.At-search Inv-loop μ-loop Inv-search μ-search → Type 0
-OuterAt c = let s = begin c in Outer (FamAt s .step) (FamAt s .progress) (FamAt s .size) (Ends (FamAt s)) (s .args .t .letters) (s .args .n) (c .search .work) (c .before .before .before .reach .result) (c .search .i)
+OuterAt c = let s = begin c in Outer (FamAt s .step) (FamAt s .progress) (FamAt s .size) (Ends (FamAt s)) (s .args .t .letters) (s .args .n) (c .search .work) (c .before .before .before .before .before .before .reach .result) (c .search .i)
 
 outer : (c : tie.At-search Inv-loop μ-loop Inv-search μ-search) → OuterAt c
 outer c = c .search .inv .2
@@ -63,7 +64,7 @@ fits s = omega (arith, s .pre .1)
 abbrev at : tie.After-progress-of Inv-loop μ-loop Inv-search μ-search → tie.At-search Inv-loop μ-loop Inv-search μ-search
 at c = c .before .before .before .before .before .before
 
-here : (c : tie.After-state-of Inv-loop μ-loop Inv-search μ-search) → c .before .before .before .search .i < c .before .before .before .before .before .before .reach .result
+here : (c : tie.After-state-of Inv-loop μ-loop Inv-search μ-search) → c .before .before .before .search .i < c .before .before .before .before .before .before .before .before .before .reach .result
 here c = c .before .before .search-test .taken
 
 pair-in : (c : tie.After-state-of Inv-loop μ-loop Inv-search μ-search) → c .state-of .result < begin (c .before .before .before) .args .n
@@ -71,12 +72,12 @@ pair-in c =
     let l = c .before .before .before in
     outer-in (fam (begin l)) (outer l) (here c) (c .state-of .ensures)
 
-small : (c : tie.At-search Inv-loop μ-loop Inv-search μ-search) → c .before .before .before .reach .result ≤ 1024
+small : (c : tie.At-search Inv-loop μ-loop Inv-search μ-search) → c .before .before .before .before .before .before .reach .result ≤ 1024
 small c = omega (arith, outer-most (fam (begin c)) (outer c), few-pairs (begin c .pre .0))
 
 -- where the combinations are searched
 abbrev pairing : tie.After-struct-known4 Inv-loop μ-loop Inv-search μ-search → tie.After-progress-of Inv-loop μ-loop Inv-search μ-search
-pairing c = c .before .before .before .before
+pairing c = c .before .before .before .before .before .before .before
 
 abbrev into : tie.At-loop Inv-loop μ-loop Inv-search μ-search → tie.After-struct-known4 Inv-loop μ-loop Inv-search μ-search
 into c = c .before .before .before .before .before
@@ -97,7 +98,7 @@ InnerAt c =
     let p = pairing (into c) in
     let l = at p in
     let s = begin l in
-    Inner (FamAt s .step) (FamAt s .progress) (FamAt s .size) (Ends (FamAt s)) (s .args .t .letters) (s .args .n) (c .loop .work) (l .before .before .before .reach .result) (l .search .i) (p .before .before .before .state-of .result) (c .loop .total) (c .loop .h)
+    Inner (FamAt s .step) (FamAt s .progress) (FamAt s .size) (Ends (FamAt s)) (s .args .t .letters) (s .args .n) (c .loop .work) (l .before .before .before .before .before .before .reach .result) (l .search .i) (p .before .before .before .state-of .result) (c .loop .total) (c .loop .h)
 
 inner : (c : tie.At-loop Inv-loop μ-loop Inv-search μ-search) → InnerAt c
 inner c = c .loop .inv .2
@@ -119,7 +120,7 @@ part c = inner-part (fam (starts c)) (inner c) (counts c)
 same-outer : (c : tie.At-search Inv-loop μ-loop Inv-search μ-search) → length (c .search .work) ≡ length (now (begin c .args .work))
 same-outer c =
     let s = begin c in
-    c .search .inv .0 ∙ front-length (s .args .n) (now (s .args .work)) (fits s) (c .before .before .before .reach .last .1 .1 .1 .0) (c .before .before .before .reach .ensures .size ∙ length-take-le (s .args .n) (now (s .args .work)) (fits s))
+    c .search .inv .0 ∙ front-length (s .args .n) (now (s .args .work)) (fits s) (c .before .before .before .before .before .before .reach .last .1 .1 .1 .0) (c .before .before .before .before .before .before .reach .ensures .size ∙ length-take-le (s .args .n) (now (s .args .work)) (fits s))
 
 -- as it was when the search of the combinations began
 same-start : (c : tie.At-loop Inv-loop μ-loop Inv-search μ-search) → length (c .loop .work) ≡ length (at (pairing (into c)) .search .work)
@@ -144,10 +145,16 @@ reach-requires c κs =
     let e = length-take-le _ _ (fits s) in
     (subst (Steps _ _ _) (sym e) (lead-steps (s .pre .0)), omega (arith, e, some-pairs (s .pre .0)))
 
+slice-aggregate-tabulate : tie.Need-slice-aggregate-tabulate Inv-loop μ-loop Inv-search μ-search
+slice-aggregate-tabulate c = sym (length-replicate {A = ℕ} 32768 0)
+
+tabulate-requires : tie.Need-tabulate-requires Inv-loop μ-loop Inv-search μ-search
+tabulate-requires c κs = let T = c .before .before .before .before .before .before .before .before .pre .0 in (lead-steps T, few-pairs T, length-replicate {A = ℕ} 32768 0)
+
 search-holds : tie.Need-search-holds Inv-loop μ-loop Inv-search μ-search
 search-holds c =
-    let s = c .before .before .before .before .before .before .before in
-    (refl, refl, outer-begin (fam s) (now (s .args .work)) (fits s) (λ q h. pair-room (s .pre .0) q h (s .pre .1)) (c .before .before .reach .ensures))
+    let s = c .before .before .before .before .before .before .before .before .before .before in
+    (refl, refl, outer-begin (fam s) (now (s .args .work)) (fits s) (λ q h. pair-room (s .pre .0) q h (s .pre .1)) (c .before .before .before .before .before .reach .ensures), length-replicate {A = ℕ} 32768 0)
 
 slice-reshare-prefix-state-of : tie.Need-slice-reshare-prefix-state-of Inv-loop μ-loop Inv-search μ-search
 slice-reshare-prefix-state-of c = outer (c .before) .fits
@@ -188,11 +195,22 @@ search-again c =
     let p = c .before .before in
     let l = at p in
     let q = p .before .before .before in
-    (l .search .inv .0, l .search .inv .1, outer-skip (fam (begin l)) (outer l) (here q) (q .state-of .ensures) (skipped (begin l .pre .0) (pair-in q) (p .progress-of .ensures) (c .before .can-end .ensures (not-true _ (c .if1 .taken)))))
+    (l .search .inv .0, l .search .inv .1, outer-skip (fam (begin l)) (outer l) (here q) (q .state-of .ensures) (skipped (begin l .pre .0) (pair-in q) (p .progress-of .ensures) (c .before .can-end .ensures (not-true _ (c .if1 .taken)))), l .search .inv .3)
+
+slice-aggregate-tabulate-2 : tie.Need-slice-aggregate-tabulate-2 Inv-loop μ-loop Inv-search μ-search
+slice-aggregate-tabulate-2 c = sym (at (c .before .before .before) .search .inv .3)
+
+tabulate-requires-2 : tie.Need-tabulate-requires-2 Inv-loop μ-loop Inv-search μ-search
+tabulate-requires-2 c κs =
+    let p = c .before .before .before in
+    let T = begin (at p) .pre .0 in
+    let h = pair-in (p .before .before .before) in
+    let e = p .progress-of .ensures in
+    (steps-at T h e, few-at T h e, at p .search .inv .3)
 
 mul-root : tie.Need-mul-root Inv-loop μ-loop Inv-search μ-search
 mul-root c =
-    let p = c .before .before .before in
+    let p = c .before .before .before .before .before .before in
     omega (arith, root-few (begin (at p) .pre .0) (pair-in (p .before .before .before)) (p .progress-of .ensures))
 
 mul-end : tie.Need-mul-end Inv-loop μ-loop Inv-search μ-search
@@ -248,8 +266,14 @@ is-target-requires c κs =
     let h = pair-in (p .before .before .before) in
     (reads-at T h (p .progress-of .ensures), some-at T h (p .progress-of .ensures))
 
+slice-aggregate-expand : tie.Need-slice-aggregate-expand Inv-loop μ-loop Inv-search μ-search
+slice-aggregate-expand c = sym (at (pairing (into (c .before .before .before .before .before .before .before))) .before .before .tabulate .ensures .long)
+
+slice-aggregate-expand-2 : tie.Need-slice-aggregate-expand-2 Inv-loop μ-loop Inv-search μ-search
+slice-aggregate-expand-2 c = sym (into (c .before .before .before .before .before .before .before .before) .before .before .before .tabulate2 .ensures .long)
+
 mul-expand : tie.Need-mul-expand Inv-loop μ-loop Inv-search μ-search
-mul-expand c = omega (arith, few-pairs (starts (c .before .before .before .before .before .before) .pre .0))
+mul-expand c = omega (arith, few-pairs (starts (c .before .before .before .before .before .before .before .before) .pre .0))
 
 sub-expand : tie.Need-sub-expand Inv-loop μ-loop Inv-search μ-search
 sub-expand c = omega arith
@@ -258,40 +282,40 @@ part-expand-start : tie.Need-part-expand-start Inv-loop μ-loop Inv-search μ-se
 part-expand-start c = omega arith
 
 part-expand-end : tie.Need-part-expand-end Inv-loop μ-loop Inv-search μ-search
-part-expand-end c = inner-fits (c .before .before .before .before .before .before)
+part-expand-end c = inner-fits (c .before .before .before .before .before .before .before .before)
 
 expand-requires : tie.Need-expand-requires Inv-loop μ-loop Inv-search μ-search
 expand-requires c κs =
-    let l = c .before .before .before .before .before .before .before in
+    let l = c .before .before .before .before .before .before .before .before .before in
     let p = pairing (into l) in
     let T = starts l .pre .0 in
     let h = pair-in (p .before .before .before) in
     let e = p .progress-of .ensures in
-    (joint-at T h e (part l), (sized (sym (part l)) (inner-asks (fam (starts l)) (inner l) (counts l) (step-is T h e)), (c .before .before .before .before .before .before .loop-test .taken, c .before .before .before .state-of2 .ensures)))
+    (tabled-at T h e (part l) (at p .before .before .tabulate .ensures) (into l .before .before .before .tabulate2 .ensures), (sized (sym (part l)) (inner-asks (fam (starts l)) (inner l) (counts l) (step-is T h e)), (c .before .before .before .before .before .before .before .before .loop-test .taken, c .before .before .before .before .before .state-of2 .ensures)))
 
 add-h : tie.Need-add-h Inv-loop μ-loop Inv-search μ-search
 add-h c =
-    let i = c .before .before .before .before .before .before .before .before .before in
+    let i = c .before .before .before .before .before .before .before .before .before .before .before in
     let l = i .before in
     omega (arith, inner-most (fam (starts l)) (inner l), inner-small (fam (starts l)) (inner l), i .loop-test .taken)
 
 loop-less : tie.Need-loop-less Inv-loop μ-loop Inv-search μ-search
 loop-less c =
-    let i = c .before .before .before .before .before .before .before .before .before in
+    let i = c .before .before .before .before .before .before .before .before .before .before .before in
     let l = i .before in
     omega (arith, inner-most (fam (starts l)) (inner l), i .loop-test .taken)
 
 loop-again : tie.Need-loop-again Inv-loop μ-loop Inv-search μ-search
 loop-again c =
-    let i = c .before .before .before .before .before .before .before .before .before in
+    let i = c .before .before .before .before .before .before .before .before .before .before .before in
     let l = i .before in
     let p = pairing (into l) in
     let T = starts l .pre .0 in
     let h = pair-in (p .before .before .before) in
     let g = step-is T h (p .progress-of .ensures) in
-    let x = c .before .before .before .before .before .before .state-of2 .ensures in
+    let x = c .before .before .before .before .before .before .before .before .state-of2 .ensures in
     let E = resized (part l) (c .before .before .expand .ensures) in
-    let d = c .before .before .before .before in
+    let d = c .before .before .before .before .before .before in
     (more-length (fam (starts l)) (inner l) (counts l) x g E ∙ l .loop .inv .0, l .loop .inv .1, inner-more (fam (starts l)) (inner l) (counts l) x g E (i .loop-test .taken) (missed T h (p .progress-of .ensures) (d .before .is-target .ensures) (d .if2 .left)))
 
 add-i-2 : tie.Need-add-i-2 Inv-loop μ-loop Inv-search μ-search
@@ -307,7 +331,7 @@ search-again-2 : tie.Need-search-again-2 Inv-loop μ-loop Inv-search μ-search
 search-again-2 c =
     let l = c .before in
     let s = at (pairing (into l)) in
-    (same-start l ∙ s .search .inv .0, l .loop .inv .1, outer-more (fam (starts l)) (inner l) (c .loop-test .left))
+    (same-start l ∙ s .search .inv .0, l .loop .inv .1, outer-more (fam (starts l)) (inner l) (c .loop-test .left), into l .before .before .before .tabulate2 .ensures .long)
 
 same-length : tie.Need-same-length Inv-loop μ-loop Inv-search μ-search
 same-length c = same-outer (c .before)
@@ -341,6 +365,8 @@ find-spec =
     slice-relend-prefix-reach
     slice-aggregate-reach
     reach-requires
+    slice-aggregate-tabulate
+    tabulate-requires
     search-holds
     slice-reshare-prefix-state-of
     slice-aggregate-state-of
@@ -352,6 +378,8 @@ find-spec =
     add-i
     search-less
     search-again
+    slice-aggregate-tabulate-2
+    tabulate-requires-2
     mul-root
     mul-end
     add-end
@@ -367,6 +395,8 @@ find-spec =
     part-state-of-end
     state-of-requires-2
     is-target-requires
+    slice-aggregate-expand
+    slice-aggregate-expand-2
     mul-expand
     sub-expand
     part-expand-start
