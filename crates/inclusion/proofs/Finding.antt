@@ -10,7 +10,7 @@ use Rattle.search.proofs.Phases.{Target}
 use Rattle.search.proofs.Lassos.{Ends}
 use Rattle.inclusion.specs.declared.Beside.{Beside}
 use Rattle.inclusion.specs.declared.Progress.{Progress}
-use Rattle.inclusion.specs.Tables.{stepOf, progressOf, ends, target, ProgressReads, Steps, Joint, Rows, Tabled, Twin, twin}
+use Rattle.inclusion.specs.Tables.{stepOf, inverseOf, progressOf, ends, target, ProgressReads, Steps, Joint, Rows, Tabled, Twin, twin}
 use Rattle.inclusion.proofs.Twins.{few-pairs, pair-reads, pair-joint, pair-some, pair-few}
 use Rattle.inclusion.proofs.Targets.{target-says, says-target}
 
@@ -20,6 +20,9 @@ module _ {b c : List ℕ} {t : Beside} {n : ℕ} (T : Twin b c t n) {q : ℕ} (h
 
   pub step-is : twin b c t n .progress q ≡ stepOf b c (g .tables)
   step-is = sym (ap (λ (x : Progress). stepOf b c (x .tables)) e)
+
+  pub inverse-at : g .inverse ≡ inverseOf (g .count)
+  inverse-at = subst (λ (x : Progress). x .inverse ≡ inverseOf (x .count)) (sym e) refl
 
   pub reads-at : ProgressReads b c g
   reads-at = subst (ProgressReads b c) (sym e) (pair-reads T q h)

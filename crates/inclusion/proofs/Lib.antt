@@ -1,3 +1,4 @@
+pub mod Quotients
 pub mod Twins
 pub mod Targets
 pub mod Finding

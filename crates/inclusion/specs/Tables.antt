@@ -15,6 +15,10 @@ use Rattle.inclusion.specs.declared.Progress.{Progress}
 abbrev pub stepOf : List ℕ → List ℕ → Beside → ℕ → ℕ → ℕ
 stepOf b c t = beside (t .width) (tableStep b (t .first) (t .letters)) (tableStep c (t .second) (t .letters))
 
+-- What a division by d multiplies by.
+abbrev pub inverseOf : ℕ → ℕ
+inverseOf d = 1099511627776 / d + 1
+
 -- The progress automata of the pair (p, q) of leading states.
 abbrev pub progressOf : List ℕ → List ℕ → ℕ → ℕ → ℕ → Progress
 progressOf b c s p q = record {
@@ -23,6 +27,7 @@ progressOf b c s p q = record {
   rejecting = marksAt c q;
   size = sizeOf b p;
   count = sizeOf b p * sizeOf c q;
+  inverse = inverseOf (sizeOf b p * sizeOf c q);
 }
 
 -- The pair y of progress states is marked in the first and not in the second.

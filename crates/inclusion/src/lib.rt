@@ -1,6 +1,9 @@
 // Inclusion of two sheets with the first counterexample, and emptiness of one, by a breadth-first search in lent cells.
+mod dividing; // dividing.rt: division by a number that stays the same
 mod tabulating; // tabulating.rt: pairs of states as one table
 
+use dividing::inverse;
+use dividing::quotient;
 use fdfa::Part;
 use fdfa::Refusal;
 use packed::Validities;
@@ -8,14 +11,14 @@ use packed::Validity;
 use tabulating::tabulate;
 ghost use mathlib.Core.Path.{_≡_};
 ghost use mathlib.Core.Bool.{true, false};
-ghost use Prim.Native.Nat.{ℕ, _+_, _*_, _/_, _%_, _<_};
+ghost use Prim.Native.Nat.{ℕ, _+_, _*_, _/_, _%_, _≤_, _<_};
 ghost use lib.ListN.{length, replicate};
 ghost use Rattle.fdfa.specs.Boolean.{beside};
 ghost use Rattle.fdfa.specs.Inclusion.{comparison, emptiness};
 ghost use Rattle.packed.specs.Layout.{letterCount, stateCount, tableStep, decode, Valid};
 ghost use Rattle.search.specs.Cells.{stateAt};
 ghost use Rattle.search.specs.Search.{Search, Expanded};
-ghost use Rattle.inclusion.specs.Tables.{besideNothing, stepOf, progressOf, ends, PairReads, ProgressReads, Steps, Tabled, Twin, twin, target};
+ghost use Rattle.inclusion.specs.Tables.{besideNothing, stepOf, progressOf, ends, PairReads, ProgressReads, Steps, Tabled, inverseOf, Twin, twin, target};
 ghost use Rattle.inclusion.specs.Search.{Room, Right, CanTell, Tells, Decided};
 ghost use Rattle.inclusion.specs.Answers.{Answered, startFault, cellsFor, Meets, emptyStart, emptyCells, MeetsEmpty};
 
@@ -43,13 +46,14 @@ pub struct Beside {
 }
 
 // The progress automata of a pair of leading states: their tables, where the marks of the first and of the second begin,
-// the first's size, and how many pairs of their states there are.
+// the first's size, how many pairs of their states there are, and what a division by that number multiplies by.
 pub struct Progress {
     pub tables: Beside,
     pub accepting: usize,
     pub rejecting: usize,
     pub size: usize,
     pub count: usize,
+    pub inverse: usize,
 }
 
 // What the search found: R, and the codes of the first counterexample's prefix and period.
@@ -116,11 +120,12 @@ fn expand(
 ) -> usize
     requires { ⌜ Tabled (now first) (now second) t (g .tables) (g .count) (length (now cells)) (now leads) (now rows) ⌝ }
     requires { ⌜ Search (beside (g .count) (stepOf (now first) (now second) t) (stepOf (now first) (now second) (g .tables))) root (t .letters) 1 (length (now cells)) (now cells) total head 0 ⌝ }
-    requires { ⌜ (head < total) × (x ≡ stateAt root (now cells) head) ⌝ }
+    requires { ⌜ (head < total) × (x ≡ stateAt root (now cells) head) × (g .inverse ≡ inverseOf (g .count)) ⌝ }
     ensures { λ r. ⌜ Expanded (beside (g .count) (stepOf (now (first .entry)) (now (second .entry)) t) (stepOf (now (first .entry)) (now (second .entry)) (g .tables))) root (t .letters) 1 (length (now (cells .entry))) (now (cells .entry)) total head (now (cells .exit)) r ⌝ }
 {
-    let lead = x / g.count * t.letters;
-    let progress = x % g.count * t.letters;
+    let q = quotient(x, g.count, g.inverse);
+    let lead = q * t.letters;
+    let progress = (x - q * g.count) * t.letters;
     let mut codes = total;
     let mut a = 0;
     while a < t.letters {
@@ -142,6 +147,7 @@ fn progress_of(first: &[u8], second: &[u8], letters: usize, p: usize, q: usize) 
     let l = packed::size(second, q);
     let at = packed::progress_at(first, p);
     let behind = packed::progress_at(second, q);
+    let count = k * l;
     Progress {
         tables: Beside {
             first: at,
@@ -152,7 +158,8 @@ fn progress_of(first: &[u8], second: &[u8], letters: usize, p: usize, q: usize) 
         accepting: at + k * letters,
         rejecting: behind + l * letters,
         size: k,
-        count: k * l,
+        count,
+        inverse: inverse(count),
     }
 }
 
@@ -170,16 +177,20 @@ fn can_end(first: &[u8], second: &[u8], g: Progress) -> bool
 // Whether the combination x, of code h, is back at the pair q, marked in the first and not in the second. The empty period
 // has code 0.
 fn is_target(first: &[u8], second: &[u8], g: Progress, q: usize, h: usize, x: usize) -> bool
-    requires { ⌜ ProgressReads (now first) (now second) g × (0 < g .count) ⌝ }
+    requires { ⌜ ProgressReads (now first) (now second) g × (0 < g .count) × (g .count ≤ 1024) × (q ≤ 1024) ⌝ }
     ensures { λ r. ⌜ r ≡ target (now (first .entry)) (now (second .entry)) g q h x ⌝ }
 {
     if h == 0 {
         return false;
     }
-    if x / g.count != q {
+    let root = q * g.count;
+    if x < root {
         return false;
     }
-    let y = x % g.count;
+    let y = x - root;
+    if g.count <= y {
+        return false;
+    }
     if !packed::is_marked(first, g.accepting, y / g.tables.width) {
         return false;
     }

@@ -2,7 +2,7 @@
 use mathlib.Core.Path.{_≡_, ap, ap₂, sym, subst, _∙_}
 use Prim.Native.Nat.{ℕ, _+_, _*_, _-_, _/_, _%_, _≤_, _<_}
 use native.Mathlib.Omega.{arith}
-use native.Mathlib.Nat.{mod-lt, mul-le-mul, mul-le-mul-right}
+use native.Mathlib.Nat.{mod-lt, mul-le-mul, mod-eq-sub-div-mul, div-mul-le-self}
 use denote.Ref.{now}
 use lib.Arith.{digits-lt}
 use lib.ListN.{length, getD}
@@ -16,11 +16,11 @@ use Rattle.inclusion.proofs.expand.Statement.{statement}
 use Rattle.inclusion.proofs.expand.Tie as tie
 
 abbrev Inv-loop : tie.InvT-loop
-Inv-loop first second t g leads rows root x cells₀ head total lead progress codes₀ a₀ cells codes a =
+Inv-loop first second t g leads rows root x cells₀ head total q lead progress codes₀ a₀ cells codes a =
     Expanding (beside (g .count) (stepOf first second t) (stepOf first second (g .tables))) root (t .letters) 1 (length cells₀) cells₀ total cells codes head a x
 
 abbrev μ-loop : tie.MeasureT-loop
-μ-loop first second t g leads rows root x cells₀ head total lead progress codes₀ a₀ cells codes a = t .letters - a
+μ-loop first second t g leads rows root x cells₀ head total q lead progress codes₀ a₀ cells codes a = t .letters - a
 
 abbrev start : tie.At-loop Inv-loop μ-loop → tie.Start Inv-loop μ-loop
 start c = c .before .before .before .before .before .before .before .before .before .before
@@ -49,21 +49,43 @@ pair-in c = let s = start c in left-below (joint s .some) (omega (arith, inside 
 progress-in : (c : tie.At-loop Inv-loop μ-loop) → start c .args .x % start c .args .g .count < start c .args .g .count
 progress-in c = mod-lt (start c .args .x) (joint (start c) .some)
 
+-- what was divided
+abbrev divided : tie.At-loop Inv-loop μ-loop → ℕ
+divided c = c .before .before .before .before .quotient .result
+
+quotient-is : (c : tie.At-loop Inv-loop μ-loop) → divided c ≡ start c .args .x / start c .args .g .count
+quotient-is c = c .before .before .before .before .quotient .ensures
+
+rest-is : (x d q : ℕ) → q ≡ x / d → x - q * d ≡ x % d
+rest-is x d q e = ap (λ (n : ℕ). x - n * d) e ∙ sym (mod-eq-sub-div-mul x d)
+
+remainder-is : (c : tie.At-loop Inv-loop μ-loop) → start c .args .x - divided c * start c .args .g .count ≡ start c .args .x % start c .args .g .count
+remainder-is c = rest-is (start c .args .x) (start c .args .g .count) (divided c) (quotient-is c)
+
 -- a cell of a table
 cell-few : (m s q a : ℕ) → m ≤ 1024 → s ≤ 32 → q < m → a < s → q * s + a < 32768
 cell-few m s q a h l k i = let most : m * s ≤ 1024 * 32 = mul-le-mul h l in omega (arith, digits-lt k i)
 
-lead-cell : (c : tie.Then1 Inv-loop μ-loop) → let l = c .before .before in start l .args .x / start l .args .g .count * start l .args .t .letters + l .loop .a < 32768
+lead-cell : (c : tie.Then1 Inv-loop μ-loop) → let l = c .before .before in divided l * start l .args .t .letters + l .loop .a < 32768
 lead-cell c =
     let l = c .before .before in
     let s = start l in
-    cell-few (tabled s .pairs) _ _ (l .loop .a) (tabled s .few-pairs) (joint s .leads .few-letters) (pair-in l) (c .if1 .taken)
+    cell-few (tabled s .pairs) _ (divided l) (l .loop .a) (tabled s .few-pairs) (joint s .leads .few-letters) (omega (arith, pair-in l, quotient-is l)) (c .if1 .taken)
 
-progress-cell : (c : tie.Then1 Inv-loop μ-loop) → let l = c .before .before in start l .args .x % start l .args .g .count * start l .args .t .letters + l .loop .a < 32768
+progress-cell : (c : tie.Then1 Inv-loop μ-loop) → let l = c .before .before in (start l .args .x - divided l * start l .args .g .count) * start l .args .t .letters + l .loop .a < 32768
 progress-cell c =
     let l = c .before .before in
     let s = start l in
-    cell-few (s .args .g .count) _ _ (l .loop .a) (tabled s .few-progress) (joint s .leads .few-letters) (progress-in l) (c .if1 .taken)
+    cell-few (s .args .g .count) _ (s .args .x - divided l * s .args .g .count) (l .loop .a) (tabled s .few-progress) (joint s .leads .few-letters) (omega (arith, progress-in l, remainder-is l)) (c .if1 .taken)
+
+-- the pair that the letter leads to
+lead-is : (w : tie.After-wide Inv-loop μ-loop) → let l = w .before .before .before .before in
+    w .wide .result ≡ stepOf (now (start l .args .first)) (now (start l .args .second)) (start l .args .t) (start l .args .x / start l .args .g .count) (l .loop .a)
+lead-is w =
+    let d = w .before .before in
+    let l = d .before .before in
+    let s = start l in
+    w .wide .ensures ∙ (ap (λ (k : ℕ). getD (now (s .args .leads)) (k * s .args .t .letters + l .loop .a) 0) (quotient-is l) ∙ tabled s .of-leads .steps _ _ (pair-in l) (d .if1 .taken))
 
 -- the combination that the letter leads to
 stepped : (c : tie.After-wide2 Inv-loop μ-loop) → let w = c .before .before .before in let l = w .before .before .before .before in
@@ -76,9 +98,9 @@ stepped c =
     let s = start l in
     let a : l .loop .a < s .args .t .letters = d .if1 .taken in
     sym (ap₂ (λ (y z : ℕ). y * s .args .g .count + z)
-    (w .wide .ensures ∙ tabled s .of-leads .steps _ _ (pair-in l) a)
+    (lead-is w)
     (c .wide2 .ensures
-    ∙ (ap (λ (k : ℕ). getD (now (s .args .rows)) (s .args .x % s .args .g .count * k + l .loop .a) 0) (sym (joint s .alike)) ∙ tabled s .of-progress .steps _ _ (progress-in l) (omega (arith, joint s .alike)))))
+    ∙ ((λ i. getD (now (s .args .rows)) (remainder-is l i * sym (joint s .alike) i + l .loop .a) 0) ∙ tabled s .of-progress .steps _ _ (progress-in l) (omega (arith, joint s .alike)))))
 
 next-in : (c : tie.After-wide2 Inv-loop μ-loop) → let w = c .before .before .before in let l = w .before .before .before .before in
     w .wide .result * start l .args .g .count + c .wide2 .result < length (now (start l .args .cells))
@@ -94,34 +116,46 @@ next-in c =
       beside-closed (j .some) (j .leads .closed) (subst (λ (s : ℕ). Closed s (start l .args .g .count) (stepOf (now (start l .args .first)) (now (start l .args .second)) (start l .args .g .tables))) (j .alike) (j .progresses .closed)) (start l .args .x) (l .loop .a) (inside l) a,
     )
 
-div-lead : tie.Need-div-lead Inv-loop μ-loop
-div-lead c = joint (c .before .before .before .before .before .before) .some
-
 -- at the start
 begun : (s : tie.Start Inv-loop μ-loop) →
     Expanding (beside (s .args .g .count) (stepOf (now (s .args .first)) (now (s .args .second)) (s .args .t)) (stepOf (now (s .args .first)) (now (s .args .second)) (s .args .g .tables))) (s .args .root) (s .args .t .letters) 1 (length (now (s .args .cells))) (now (s .args .cells)) (s .args .total) (now (s .args .cells)) (s .args .total) (s .args .head) 0 (s .args .x)
 begun s =
     rw (s .pre .1 .1 .1) (expand-start _ _ _ _ _ _ _ _ (joint s .leads .few-letters) (s .pre .1 .0) (joint s .few) (s .pre .1 .1 .0))
 
-few-lead : (s : tie.Start Inv-loop μ-loop) → s .args .x / s .args .g .count * s .args .t .letters ≤ 32768
-few-lead s =
-    let x-in : s .args .x < tabled s .pairs * s .args .g .count = omega (arith, tabled s .all, expand-inside _ _ _ _ _ _ _ _ (joint s .leads .few-letters) _ _ (begun s) (joint s .few)) in
-    let l : s .args .x / s .args .g .count ≤ 1024 = omega (arith, left-below (joint s .some) x-in, tabled s .few-pairs) in
-    mul-le-mul l (joint s .leads .few-letters)
+inside-start : (s : tie.Start Inv-loop μ-loop) → s .args .x < length (now (s .args .cells))
+inside-start s = expand-inside _ _ _ _ _ _ _ _ (joint s .leads .few-letters) _ _ (begun s) (joint s .few)
 
-few-progress : (s : tie.Start Inv-loop μ-loop) → s .args .x % s .args .g .count * s .args .t .letters ≤ 32768
-few-progress s =
-    let l : s .args .x % s .args .g .count ≤ 1024 = omega (arith, mod-lt (s .args .x) (joint s .some), tabled s .few-progress) in
-    mul-le-mul l (joint s .leads .few-letters)
+few-start : (s : tie.Start Inv-loop μ-loop) → s .args .x ≤ 1048576
+few-start s = omega (arith, inside-start s, joint s .few)
+
+quotient-requires : tie.Need-quotient-requires Inv-loop μ-loop
+quotient-requires c κs = let s = c .before .before .before .before .before in (few-start s, joint s .some, tabled s .few-progress, s .pre .1 .1 .2)
 
 mul-lead : tie.Need-mul-lead Inv-loop μ-loop
-mul-lead c = omega (arith, few-lead (c .before .before .before .before .before .before .before))
+mul-lead c =
+    let s = c .before .before .before .before .before .before .before in
+    let x-in : s .args .x < tabled s .pairs * s .args .g .count = omega (arith, inside-start s, tabled s .all) in
+    let l : c .before .quotient .result ≤ 1024 = omega (arith, c .before .quotient .ensures, left-below (joint s .some) x-in, tabled s .few-pairs) in
+    let most : c .before .quotient .result * s .args .t .letters ≤ 1024 * 32 = mul-le-mul l (joint s .leads .few-letters) in
+    omega arith
 
-rem-progress : tie.Need-rem-progress Inv-loop μ-loop
-rem-progress c = joint (c .before .before .before .before .before .before .before .before) .some
+share : (x d q : ℕ) → q ≡ x / d → q * d ≤ x
+share x d q e = let l : x / d * d ≤ x = div-mul-le-self x d in subst (λ (n : ℕ). n * d ≤ x) (sym e) l
 
 mul-progress : tie.Need-mul-progress Inv-loop μ-loop
-mul-progress c = omega (arith, few-progress (c .before .before .before .before .before .before .before .before .before))
+mul-progress c =
+    let s = c .before .before .before .before .before .before .before .before in omega (arith, share (s .args .x) (s .args .g .count) _ (c .before .before .quotient .ensures), few-start s)
+
+sub-progress : tie.Need-sub-progress Inv-loop μ-loop
+sub-progress c = let s = c .before .before .before .before .before .before .before .before in share (s .args .x) (s .args .g .count) _ (c .before .before .quotient .ensures)
+
+mul-progress-2 : tie.Need-mul-progress-2 Inv-loop μ-loop
+mul-progress-2 c =
+    let s = c .before .before .before .before .before .before .before .before .before in
+    let q = c .before .before .before .quotient in
+    let l : s .args .x - q .result * s .args .g .count ≤ 1024 = omega (arith, rest-is (s .args .x) (s .args .g .count) (q .result) (q .ensures), mod-lt (s .args .x) (joint s .some), tabled s .few-progress) in
+    let most : (s .args .x - q .result * s .args .g .count) * s .args .t .letters ≤ 1024 * 32 = mul-le-mul l (joint s .leads .few-letters) in
+    omega arith
 
 loop-holds : tie.Need-loop-holds Inv-loop μ-loop
 loop-holds c = begun (c .before .before .before .before .before .before .before .before .before)
@@ -144,7 +178,7 @@ mul-next c =
     let d = w .before .before in
     let l = d .before .before in
     let s = start l in
-    let lead : w .wide .result < joint s .states = omega (arith, w .wide .ensures ∙ tabled s .of-leads .steps _ _ (pair-in l) (d .if1 .taken), joint s .leads .closed _ _ (lead-in l) (d .if1 .taken)) in
+    let lead : w .wide .result < joint s .states = omega (arith, lead-is w, joint s .leads .closed _ _ (lead-in l) (d .if1 .taken)) in
     let few : w .wide .result ≤ 1048576 = omega (arith, joint s .leads .few) in
     let most : w .wide .result * s .args .g .count ≤ 1048576 * 1024 = mul-le-mul few (tabled s .few-progress) in
     omega arith
@@ -204,10 +238,11 @@ expand-spec =
     (tie.spec
     Inv-loop
     μ-loop
-    div-lead
+    quotient-requires
     mul-lead
-    rem-progress
     mul-progress
+    sub-progress
+    mul-progress-2
     loop-holds
     add-wide
     mul-wide

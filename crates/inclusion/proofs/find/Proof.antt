@@ -18,7 +18,7 @@ use Rattle.inclusion.specs.declared.Outcome.the-variants.{Contained}
 use Rattle.inclusion.specs.Tables.{progressOf, Steps, Twin, twin}
 use Rattle.inclusion.specs.Search.{Right}
 use Rattle.inclusion.proofs.Twins.{twin-complete, lead-steps, some-width, some-pairs, few-pairs, first-half, second-half, pair-room, searchable}
-use Rattle.inclusion.proofs.Finding.{count-is, step-is, reads-at, some-at, few-at, all-few, root-few, steps-at, tabled-at, skipped, hit, missed}
+use Rattle.inclusion.proofs.Finding.{count-is, step-is, inverse-at, reads-at, some-at, few-at, all-few, root-few, steps-at, tabled-at, skipped, hit, missed}
 use borrow.Author.Needs.{needs}
 use Rattle.inclusion.proofs.find.Statement.{statement}
 use Rattle.inclusion.proofs.find.Tie as tie
@@ -264,7 +264,8 @@ is-target-requires c κs =
     let p = pairing (into (c .before .before .before .before)) in
     let T = begin (at p) .pre .0 in
     let h = pair-in (p .before .before .before) in
-    (reads-at T h (p .progress-of .ensures), some-at T h (p .progress-of .ensures))
+    let e = p .progress-of .ensures in
+    (reads-at T h e, some-at T h e, few-at T h e, omega (arith, h, few-pairs T))
 
 slice-aggregate-expand : tie.Need-slice-aggregate-expand Inv-loop μ-loop Inv-search μ-search
 slice-aggregate-expand c = sym (at (pairing (into (c .before .before .before .before .before .before .before))) .before .before .tabulate .ensures .long)
@@ -291,7 +292,7 @@ expand-requires c κs =
     let T = starts l .pre .0 in
     let h = pair-in (p .before .before .before) in
     let e = p .progress-of .ensures in
-    (tabled-at T h e (part l) (at p .before .before .tabulate .ensures) (into l .before .before .before .tabulate2 .ensures), (sized (sym (part l)) (inner-asks (fam (starts l)) (inner l) (counts l) (step-is T h e)), (c .before .before .before .before .before .before .before .before .loop-test .taken, c .before .before .before .before .before .state-of2 .ensures)))
+    (tabled-at T h e (part l) (at p .before .before .tabulate .ensures) (into l .before .before .before .tabulate2 .ensures), (sized (sym (part l)) (inner-asks (fam (starts l)) (inner l) (counts l) (step-is T h e)), (c .before .before .before .before .before .before .before .before .loop-test .taken, c .before .before .before .before .before .state-of2 .ensures, inverse-at T h e)))
 
 add-h : tie.Need-add-h Inv-loop μ-loop Inv-search μ-search
 add-h c =
