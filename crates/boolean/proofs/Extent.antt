@@ -1,6 +1,6 @@
 -- How long the product of two sheets is. Assumes nothing.
-use mathlib.Core.Path.{_≡_, refl, ap, ap₂, sym, _∙_}
-use mathlib.Core.List.{List, _++_}
+use mathlib.Core.Path.{_≡_, ap₂, _∙_}
+use mathlib.Core.List.{List}
 use mathlib.Core.Bool.{_&&_}
 use Prim.Native.Nat.{ℕ, _+_, _*_, _/_, _%_, _≤_, _<_}
 use native.Mathlib.Omega.{arith}
@@ -9,8 +9,8 @@ use native.Mathlib.Numerals.{add-one}
 use lib.ListN.{length, length-append}
 use Rattle.fdfa.specs.Boolean.{product}
 use Rattle.fdfa.proofs.Product.{left-below}
-use Rattle.packed.specs.Tables.{rows, sum}
-use Rattle.packed.specs.Layout.{letterCount, stateCount, sizeOf, decode, frontBytes, partBytes}
+use Rattle.packed.specs.Tables.{sum}
+use Rattle.packed.specs.Layout.{letterCount, stateCount, decode, frontBytes, partBytes}
 use Rattle.packed.proofs.Bounds.{sum-le, few-both, part-few}
 use Rattle.packed.proofs.Tabulated.{length-rows, sum-same}
 use Rattle.packed.proofs.Packing.{length-front, length-part}

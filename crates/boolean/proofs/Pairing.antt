@@ -1,6 +1,5 @@
 -- A pair of leading states of two sheets: what is read for it lies within the sheets, and what is written is the product's. Assumes nothing.
-use mathlib.Core.Path.{_≡_, refl, ap, ap₂, sym, _∙_}
-use mathlib.Core.Bool.{Bool}
+use mathlib.Core.Path.{_≡_, ap, ap₂, sym, _∙_}
 use mathlib.Core.List.{List, [], _∷_, _++_}
 use Prim.Native.Nat.{ℕ, _+_, _*_, _/_, _%_, _≤_, _<_}
 use native.Mathlib.Omega.{arith}
@@ -15,7 +14,6 @@ use Rattle.packed.specs.Tables.{tab}
 use Rattle.packed.specs.Layout.{letterCount, stateCount, sizeOf, leadingAt, progressAt, tableStep, decode, mark, table, Valid}
 use Rattle.packed.proofs.Bounds.{few-both, progress-first, progress-upto, Body, body}
 use Rattle.packed.proofs.Tabulated.{length-tab, length-table}
-use Rattle.boolean.specs.declared.Beside.{Beside}
 use Rattle.boolean.specs.declared.Operation.{Operation}
 use Rattle.boolean.specs.Operations.{opOf, pairNext, pairMark, pairSize, RowReads, MarkReads, SizeReads, pairPart, productFront, Pair}
 

@@ -1,19 +1,19 @@
 -- The part of a leading state with its marks turned is its part in the complement. Assumes nothing.
 use mathlib.Core.Path.{_≡_, refl, ap, ap₂, sym, _∙_}
 use mathlib.Core.Bool.{Bool, not}
-use mathlib.Core.List.{List, [], _++_, append-nil, append-assoc}
-use Prim.Native.Nat.{ℕ, _+_, _*_, _-_, _≤_, _<_}
+use mathlib.Core.List.{List, _++_, append-nil, append-assoc}
+use Prim.Native.Nat.{ℕ, _+_, _*_, _-_, _<_}
 use native.Mathlib.Omega.{arith}
 use lib.Dec.{eqb}
-use lib.ListN.{length, getD, take, drop, length-append}
+use lib.ListN.{length, take, drop, length-append}
 use lib.Seq.{take-at, drop-at}
 use Rattle.fdfa.specs.Family.{Fdfa}
 use Rattle.fdfa.specs.Boolean.{complement}
 use Rattle.fdfa.specs.Slices.{written}
 use Rattle.fdfa.proofs.Slices.{Begun, written-again}
-use Rattle.packed.specs.Tables.{tab, rows, sum}
+use Rattle.packed.specs.Tables.{tab, rows}
 use Rattle.packed.specs.Layout.{letterCount, stateCount, sizeOf, progressAt, decode, mark, table, frontBytes, partBytes, Valid}
-use Rattle.packed.proofs.Tabulated.{length-tab, getD-tab, tab-same, sum-same, length-rows, length-table}
+use Rattle.packed.proofs.Tabulated.{getD-tab, tab-same, sum-same, length-rows, length-table}
 use Rattle.packed.proofs.Packing.{mark-says, part-length, length-part, length-front, part-of-bytes}
 use Rattle.packed.proofs.Filling.{rows-next}
 use Rattle.boolean.specs.Operations.{turnedMark, turnedPart, complementBytes}

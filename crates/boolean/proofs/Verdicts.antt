@@ -1,22 +1,32 @@
 -- The sheets that complement, intersection and union write: they are valid, and their verdicts are reversed, both, or either. Assumes nothing.
 use mathlib.Core.Path.{_≡_, refl, ap, sym, _∙_}
-use mathlib.Core.Bool.{Bool, not}
+use mathlib.Core.Bool.{not}
 use mathlib.Core.List.{List}
 use Prim.Native.Nat.{ℕ, _*_, _/_, _%_, _≤_, _<_}
-use native.Mathlib.Nat.{mod-lt}
+use native.Mathlib.Omega.{arith}
+use native.Mathlib.Nat.{mod-lt, mul-le-mul}
+use lib.Dec.{ltb}
+use lib.ListN.{length}
+use borrow.Author.Tests.{ltb-false}
+use Rattle.fdfa.specs.declared.Part.the-variants.{Out}
 use Rattle.fdfa.specs.Family.{Fdfa, Complete, Lasso}
 use Rattle.fdfa.specs.Normalization.{Normalized}
 use Rattle.fdfa.specs.Acceptance.{Verdict, verdict, accepts}
 use Rattle.fdfa.specs.Boolean.{complement, product}
+use Rattle.fdfa.specs.Inclusion.{widest}
+use Rattle.fdfa.specs.Refusals.{Fault, sound, _then_, when}
 use Rattle.fdfa.specs.Invariance.{TurnProof}
 use Rattle.fdfa.proofs.Agreement.{verdict-same}
 use Rattle.fdfa.proofs.Complement.{complement-complete}
+use Rattle.fdfa.proofs.Largest.{largest-le}
+use Rattle.fdfa.proofs.Refusals.{then-left, then-right, when-sound}
 use Rattle.fdfa.proofs.Product.{left-below, product-complete, product-closing, product-of-turn-proof}
-use Rattle.packed.specs.Layout.{letterCount, stateCount, decode, pack, Packable, Valid}
+use Rattle.packed.specs.Layout.{letterCount, stateCount, sizeOf, decode, pack, Packable, Valid}
+use Rattle.packed.specs.Faults.{pairFault}
 use Rattle.packed.proofs.Packing.{decode-pack, pack-valid}
-use Rattle.packed.proofs.Soundness.{valid-packable}
+use Rattle.packed.proofs.Soundness.{valid-packable, pair-valid}
 use Rattle.boolean.specs.declared.Operation.{Operation}
-use Rattle.boolean.specs.Operations.{complementBytes, opOf, productBytes, Pair}
+use Rattle.boolean.specs.Operations.{complementBytes, opOf, productBytes, tooShort, productFault, Pair}
 
 -- what is read of a packed family has the family's verdicts
 read-back : (F : Fdfa) → Packable F → (u v : List ℕ) → Lasso (F .letters) u v → verdict (decode (pack F)) u v ≡ verdict F u v
@@ -41,6 +51,36 @@ module _ (b : List ℕ) (valid : Valid b) where
   pub complement-verdict : (u v : List ℕ) → Lasso (letterCount b) u v → let w = verdict (decode b) u v in
       verdict (decode (complementBytes b)) u v ≡ record { accepted = not (w .accepted); i = w .i; j = w .j; place = w .place; end = w .end }
   complement-verdict u v l = read-back (complement (decode b)) complement-packable u v l
+
+pub sizes-few : (b c : List ℕ) → widest (decode b) * widest (decode c) ≤ 32 → (p q : ℕ) → p < stateCount b → q < stateCount c → sizeOf b p * sizeOf c q ≤ 32
+sizes-few b c h p q hp hq =
+    omega (arith, mul-le-mul (largest-le (stateCount b) (sizeOf b) p hp) (largest-le (stateCount c) (sizeOf c) q hq))
+
+-- what the calls did not refuse has a product
+pub sound-pair : (op : Operation) (b c : List ℕ) (cells : ℕ) → productFault op b c cells ≡ sound → Pair b c (letterCount b)
+sound-pair op b c cells e = record {
+  first = valid .0;
+  second = valid .1;
+  alike = valid .2;
+  letters-are = refl;
+  few-pairs = ltb-false 32 (stateCount b * stateCount c) (when-sound _ 20 Out _ (then-left pairs (progress then room) rest));
+  few-progress = sizes-few b c (ltb-false 32 (widest (decode b) * widest (decode c)) (when-sound _ 20 Out _ (then-left progress room (then-right pairs (progress then room) rest))));
+}
+  where
+    pairs : Fault
+    pairs = when (ltb 32 (stateCount b * stateCount c)) 20 Out (stateCount b * stateCount c)
+
+    progress : Fault
+    progress = when (ltb 32 (widest (decode b) * widest (decode c))) 20 Out (widest (decode b) * widest (decode c))
+
+    room : Fault
+    room = tooShort cells (length (productBytes op b c))
+
+    valid : Valid b × Valid c × (letterCount b ≡ letterCount c)
+    valid = pair-valid b c (then-left (pairFault b c) (pairs then progress then room) e)
+
+    rest : pairs then progress then room ≡ sound
+    rest = then-right (pairFault b c) (pairs then progress then room) e
 
 module _ (op : Operation) (b c : List ℕ) (s : ℕ) (P : Pair b c s) where
   both : Complete (decode b) × Complete (decode c)

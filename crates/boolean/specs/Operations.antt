@@ -2,14 +2,14 @@
 use mathlib.Core.Path.{_≡_}
 use mathlib.Core.Bool.{Bool, not, _&&_, _||_}
 use mathlib.Core.List.{List, _++_}
-use Prim.Native.Nat.{ℕ, zero, suc, _+_, _*_, _-_, _/_, _%_, _≤_, _<_}
+use Prim.Native.Nat.{ℕ, _+_, _*_, _-_, _/_, _%_, _≤_, _<_}
 use lib.Dec.{eqb, ltb}
 use lib.ListN.{length, getD, take, drop}
-use Rattle.fdfa.specs.declared.Part.the-variants.{First, Second, Out}
+use Rattle.fdfa.specs.declared.Part.the-variants.{First, Out}
 use Rattle.fdfa.specs.Family.{Fdfa}
 use Rattle.fdfa.specs.Boolean.{complement, product, intersection, union, beside}
 use Rattle.fdfa.specs.Inclusion.{widest}
-use Rattle.fdfa.specs.Refusals.{Fault, _then_, when, Result, given, refused, unless}
+use Rattle.fdfa.specs.Refusals.{Fault, _then_, when, Result, given, refused}
 use Rattle.packed.specs.Layout.{letterCount, stateCount, sizeOf, tableStep, decode, mark, table, frontBytes, pack, Valid}
 use Rattle.packed.specs.Faults.{sheetFault, pairFault}
 use Rattle.packed.specs.Tables.{tab, rows, sum}

@@ -1,23 +1,23 @@
 -- What a step and the rest say, by the tests that decide it. Assumes nothing.
-use mathlib.Core.Path.{_≡_, refl, ap, ap₂, sym, _∙_}
+use mathlib.Core.Path.{_≡_, refl, ap, sym, _∙_}
 use mathlib.Core.Bool.{Bool, cond}
 use mathlib.Core.List.{List, []}
 use Prim.Native.Nat.{ℕ, _+_, _-_, _≤_, _<_}
 use native.Mathlib.Omega.{arith}
 use native.Mathlib.Nat.{add-comm}
 use denote.Enum.Declared
-use lib.Dec.{eqb, ltb, leb}
+use lib.Dec.{leb}
 use lib.ListN.{length, getD, drop, take, length-drop}
 use lib.Seq.{take-all}
 use borrow.Author.Tests.{eq-eqb, ne-eqb, lt-ltb, le-ltb, le-leb, lt-leb}
 use Rattle.fdfa.specs.declared.Part.the-variants as part
 use Rattle.fdfa.specs.declared.Refusal.{Refusal}
-use Rattle.fdfa.specs.Refusals.{Fault, sound, fault, _then_, when}
+use Rattle.fdfa.specs.Refusals.{Fault, sound, fault, when}
 use Rattle.fdfa.proofs.Refusals.{when-fails, when-passes, passed, failed}
 use Rattle.cursor.specs.declared.Playing.{Playing}
 use Rattle.cursor.specs.declared.Playing.the-variants.{Prefix, Period}
 use Rattle.cursor.specs.declared.Cursor.{Cursor}
-use Rattle.cursor.specs.Walking.{wordOf, named, stepFault, nextIn, nextOf, Stepped, moved, stays, unlessStays, stepped, passedIn, restOf, lies, restLies}
+use Rattle.cursor.specs.Walking.{wordOf, named, stepFault, nextIn, nextOf, moved, stays, unlessStays, stepped, passedIn, restOf, lies, restLies}
 use Rattle.cursor.proofs.Playing as playing
 
 pub is-prefix : (p : Playing) → Declared.tagOf playing.the-type p ≡ 0 → p ≡ Prefix

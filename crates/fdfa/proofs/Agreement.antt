@@ -1,12 +1,11 @@
 -- Families that agree on their states and letters give every lasso the same verdict. Assumes nothing.
-use mathlib.Core.Path.{_≡_, refl, ap, sym, subst, _∙_, fun-ext}
-use mathlib.Core.Bool.{Bool}
-use mathlib.Core.List.{List, [], _∷_, _++_}
+use mathlib.Core.Path.{_≡_, refl, ap, _∙_}
+use mathlib.Core.List.{List}
 use Prim.Native.Nat.{ℕ, _<_}
 use Rattle.fdfa.specs.Words.{Over, done, below, turns}
 use Rattle.fdfa.specs.Family.{Fdfa, Closed, Complete, walk, Lasso, Agrees}
 use Rattle.fdfa.specs.Normalization.{returnFrom, returning, after, preperiod, periodCount}
-use Rattle.fdfa.specs.Acceptance.{loopState, endState, accepts, Verdict, verdict}
+use Rattle.fdfa.specs.Acceptance.{loopState, endState, accepts, verdict}
 use Rattle.fdfa.proofs.Words.{over-append, over-turns, walk-closed}
 use Rattle.fdfa.proofs.Normal.{inside}
 

@@ -1,9 +1,9 @@
 -- Emptiness: the search by enumeration, up to 01's bounds, answers for lassos of every length. Assumes nothing.
 use mathlib.Core.Path.{_≡_, refl, ap, ap₂, sym, subst, _∙_}
-use mathlib.Core.Bool.{Bool, true, false, _&&_}
-use mathlib.Core.List.{List, [], _∷_, _++_}
+use mathlib.Core.Bool.{Bool, true, _&&_}
+use mathlib.Core.List.{List, [], _++_}
 use mathlib.Core.Logic.{_⊎_, inl, inr}
-use Prim.Native.Nat.{ℕ, zero, suc, _+_, _*_, _≤_, _<_}
+use Prim.Native.Nat.{ℕ, _+_, _*_, _≤_, _<_}
 use native.Mathlib.Omega.{arith}
 use native.Mathlib.Nat.{le-trans, mul-le-mul-left}
 use lib.Arith.{digits-lt}
@@ -11,17 +11,17 @@ use lib.ListN.{length}
 use lib.Dec.{eqb}
 use borrow.Author.Tests.{eq-eqb, eqb-true}
 use Rattle.fdfa.specs.Words.{Over, turns, Shortlex, Before, by-prefix, by-period}
-use Rattle.fdfa.specs.Family.{Fdfa, Closed, Complete, walk, Lasso}
+use Rattle.fdfa.specs.Family.{Fdfa, Complete, walk, Lasso}
 use Rattle.fdfa.specs.Normalization.{preperiod, periodCount, Normalized}
 use Rattle.fdfa.specs.Acceptance.{accepts}
 use Rattle.fdfa.specs.Boolean.{beside}
 use Rattle.fdfa.specs.Enumeration.{Witness, absent, lasso, firstLasso}
-use Rattle.fdfa.specs.Inclusion.{First, Answers, none-has, first-is, normalized, widest, Accepted, emptiness}
+use Rattle.fdfa.specs.Inclusion.{Answers, none-has, first-is, normalized, widest, Accepted, emptiness}
 use Rattle.fdfa.proofs.Largest.{largest-le}
 use Rattle.fdfa.proofs.Tests.{and-left, and-right, both}
 use Rattle.fdfa.proofs.Words.{walk-closed}
 use Rattle.fdfa.proofs.Order.{before-irrefl, before-trans}
-use Rattle.fdfa.proofs.Normal.{back-normalized, normalized-back, normalized-accepts, Normalization, normalization}
+use Rattle.fdfa.proofs.Normal.{back-normalized, normalized-back, normalized-accepts, normalization}
 use Rattle.fdfa.proofs.Product.{beside-closed, beside-walk, pair-parts}
 use Rattle.fdfa.proofs.Enumerated.{Upto, same, later, Ranges, FindsLasso, has, lacks, lasso-first}
 use Rattle.fdfa.proofs.Pumping.{Short, short, ShortTurn, short-turn}

@@ -5,10 +5,10 @@ use mathlib.Core.List.{List, [], _∷_}
 use mathlib.Core.Logic.{_⊎_, inl, inr}
 use Prim.Native.Nat.{ℕ, zero, suc, _+_, _≤_, _<_}
 use native.Mathlib.Omega.{arith}
-use native.Mathlib.Decide.{decLt, ℕ-discrete}
+use native.Mathlib.Decide.{ℕ-discrete}
 use native.Mathlib.Nat.{suc-inj}
 use lib.ListN.{length}
-use Rattle.fdfa.specs.Words.{Over, done, below, Lex, differ, Shortlex, shorter, as-long, Before, by-prefix, by-period}
+use Rattle.fdfa.specs.Words.{Over, done, below, differ, Shortlex, shorter, as-long, Before, by-prefix, by-period}
 use Rattle.fdfa.specs.Enumeration.{Found, none, word, isFound, behind, firstLetter, firstOfLength, firstWord, Witness, absent, lasso, withPeriod, withPrefix, firstLasso}
 use Rattle.fdfa.proofs.Order.{shortlex-cons}
 

@@ -1,6 +1,6 @@
 -- Inclusion: the comparison answers for lassos of every length; where both families are turn-proof, of lassos that are not
 -- normalized too. Its question is emptiness of a product (002, Proposition 4.6). Assumes nothing.
-use mathlib.Core.Path.{_≡_, refl, ap, ap₂, sym, subst, _∙_}
+use mathlib.Core.Path.{_≡_, sym, subst, _∙_}
 use mathlib.Core.Bool.{Bool, true, false, not, _&&_}
 use mathlib.Core.List.{List, _++_}
 use Prim.Native.Nat.{ℕ, _*_, _/_, _%_, _≤_, _<_}
@@ -12,8 +12,8 @@ use Rattle.fdfa.specs.Normalization.{preperiod, periodCount, Normalized}
 use Rattle.fdfa.specs.Acceptance.{accepts}
 use Rattle.fdfa.specs.Boolean.{product}
 use Rattle.fdfa.specs.Invariance.{TurnProof}
-use Rattle.fdfa.specs.Enumeration.{Witness, absent, lasso}
-use Rattle.fdfa.specs.Inclusion.{Counterexample, Answers, none-has, normalized, counters, widest, pairs, pairStep, combinations, Comparison, comparison, Accepted}
+use Rattle.fdfa.specs.Enumeration.{absent, lasso}
+use Rattle.fdfa.specs.Inclusion.{Counterexample, Answers, none-has, normalized, counters, widest, pairs, pairStep, combinations, comparison, Accepted}
 use Rattle.fdfa.proofs.Tests.{and-left, and-right, both, not-of, of-not}
 use Rattle.fdfa.proofs.Normal.{normal, Normalization, normalization}
 use Rattle.fdfa.proofs.Product.{left-below, product-complete, product-parts, product-normalized, product-closing}

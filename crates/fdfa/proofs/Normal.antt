@@ -1,7 +1,7 @@
 -- The normalization of a lasso: what i, j, q and the verdict are, for lassos of every length. Assumes nothing.
-use mathlib.Core.Path.{_≡_, refl, ap, sym, subst, _∙_}
-use mathlib.Core.List.{List, [], _∷_, _++_, append-nil}
-use Prim.Native.Nat.{ℕ, zero, suc, _+_, _≤_, _<_}
+use mathlib.Core.Path.{_≡_, ap, sym, subst, _∙_}
+use mathlib.Core.List.{List, _++_, append-nil}
+use Prim.Native.Nat.{ℕ, _+_, _≤_, _<_}
 use native.Mathlib.Omega.{arith}
 use Rattle.fdfa.specs.Words.{turns}
 use Rattle.fdfa.specs.Family.{Fdfa, Complete, walk, Lasso}

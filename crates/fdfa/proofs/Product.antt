@@ -1,11 +1,11 @@
 -- The product of two families: it is complete, and its verdict is both, or either, for every lasso that is normalized in
 -- both, and for every lasso if both families are turn-proof (002, Theorem 4.3). Said once, over the operation. Assumes nothing.
-use mathlib.Core.Path.{_≡_, refl, ap, ap₂, sym, subst, _∙_}
+use mathlib.Core.Path.{_≡_, refl, ap, ap₂, sym, _∙_}
 use mathlib.Core.Bool.{Bool, _&&_, _||_}
-use mathlib.Core.List.{List, [], _∷_, _++_}
-use Prim.Native.Nat.{ℕ, zero, suc, _+_, _*_, _/_, _%_, _≤_, _<_}
+use mathlib.Core.List.{List, _++_}
+use Prim.Native.Nat.{ℕ, _+_, _*_, _/_, _%_, _<_}
 use native.Mathlib.Omega.{arith}
-use native.Mathlib.Nat.{zero-mul, mul-pos, mod-lt, div-lt-iff-lt-mul, div-add-mod'}
+use native.Mathlib.Nat.{zero-mul, mul-pos, mod-lt, div-lt-iff-lt-mul}
 use lib.Arith.{digits-lt, digits-div, digits-mod}
 use Rattle.fdfa.specs.Words.{Over, done, below, turns}
 use Rattle.fdfa.specs.Family.{Fdfa, Closed, Complete, walk, Lasso}

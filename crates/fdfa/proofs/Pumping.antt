@@ -4,12 +4,12 @@ use mathlib.Core.List.{List, [], _∷_, _++_}
 use Prim.Native.Nat.{ℕ, zero, suc, _+_, _-_, _≤_, _<_}
 use native.Mathlib.Omega.{arith}
 use native.Mathlib.Decide.{decLt}
-use lib.ListN.{length, take, drop, length-append, length-take, length-drop, take-append-drop}
+use lib.ListN.{length, take, drop, length-append, length-drop, take-append-drop}
 use lib.Seq.{length-take-le}
-use Rattle.fdfa.specs.Words.{Over, done, below, Shortlex, shorter}
+use Rattle.fdfa.specs.Words.{Over, below, shorter}
 use Rattle.fdfa.specs.Family.{Closed, walk}
 use Rattle.fdfa.proofs.Words.{over-append, over-take, over-drop, walk-append, walk-closed}
-use Rattle.fdfa.proofs.Order.{shortlex-trans, shortlex-cons}
+use Rattle.fdfa.proofs.Order.{shortlex-trans}
 use Rattle.fdfa.proofs.Pigeonhole.{Repeat, pigeonhole}
 use Rattle.fdfa.proofs.Enumerated.{Upto, same, later, upto-cons}
 

@@ -1,13 +1,12 @@
 -- Sequences of numbers below n in which each number decides the next: where they first return. Assumes nothing.
-use mathlib.Core.Path.{_≡_, refl, ap, sym, _∙_}
-use mathlib.Core.Bool.{true}
+use mathlib.Core.Path.{_≡_, ap, sym, _∙_}
 use Prim.Native.Nat.{ℕ, zero, suc, _+_, _*_, _-_, _≤_, _<_}
 use native.Mathlib.Omega.{arith}
-use native.Mathlib.Nat.{suc-mul, zero-mul, add-zero, le-mul-of-pos-right, le-antisymm}
+use native.Mathlib.Nat.{suc-mul, zero-mul, le-mul-of-pos-right, le-antisymm}
 use native.Mathlib.Decide.{decLt, decLe}
 use lib.Dec.{eqb, leb}
 use borrow.Author.Tests.{eq-eqb, eqb-true, le-leb, leb-true}
-use Rattle.fdfa.specs.Normalization.{least, returnFrom, returning, Smallest}
+use Rattle.fdfa.specs.Normalization.{returnFrom, returning, Smallest}
 use Rattle.fdfa.proofs.Least.{least-le, least-passes, least-bound}
 use Rattle.fdfa.proofs.Pigeonhole.{Repeat, pigeonhole}
 

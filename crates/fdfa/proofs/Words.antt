@@ -1,5 +1,5 @@
 -- Words, their powers, and the walk of an automaton over them. Assumes nothing.
-use mathlib.Core.Path.{_≡_, refl, ap, sym, subst, _∙_}
+use mathlib.Core.Path.{_≡_, refl, ap, sym, _∙_}
 use mathlib.Core.List.{List, [], _∷_, _++_, append-nil, append-assoc}
 use Prim.Native.Nat.{ℕ, zero, suc, _+_, _*_, _≤_, _<_}
 use native.Mathlib.Nat.{suc-add, zero-add, zero-mul, suc-mul, add-comm, mul-suc, mul-zero, le-of-suc-le-suc}

@@ -2,7 +2,7 @@
 use mathlib.Core.Path.{_≡_}
 use mathlib.Core.Bool.{Bool}
 use mathlib.Core.List.{List, [], _∷_}
-use Prim.Native.Nat.{ℕ, zero, suc, _<_}
+use Prim.Native.Nat.{ℕ, _<_}
 use Rattle.fdfa.specs.Words.{Over}
 
 -- A family of DFAs (01: a sheet). States and letters (01: places and scenes) are numbered from 0, and state 0 of each

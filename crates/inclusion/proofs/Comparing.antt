@@ -1,16 +1,12 @@
 -- The answer for the family of pairs is the comparison's: the definition's by enumeration, and the third demand's. Assumes
 -- nothing.
-use mathlib.Core.Path.{_≡_, refl, ap, ap₂, sym, subst, subst₂, _∙_}
-use mathlib.Core.Bool.{true, false}
+use mathlib.Core.Path.{_≡_, sym, subst, subst₂}
 use mathlib.Core.List.{List}
-use Prim.Native.Nat.{ℕ, _≤_, _<_}
-use lib.ListN.{length, take}
-use Rattle.fdfa.specs.Family.{Fdfa, Complete, Lasso}
-use Rattle.fdfa.specs.Acceptance.{accepts}
+use Prim.Native.Nat.{ℕ}
+use Rattle.fdfa.specs.Family.{Fdfa, Complete}
 use Rattle.fdfa.specs.Boolean.{product}
 use Rattle.fdfa.specs.Enumeration.{Witness, absent, lasso}
 use Rattle.fdfa.specs.Inclusion.{First, Counterexample, Accepted, Answers, none-has, first-is, Counts, Reached, ReachedPair, pairs, comparison}
-use Rattle.fdfa.specs.Invariance.{TurnProof}
 use Rattle.fdfa.proofs.Product.{product-complete}
 use Rattle.fdfa.proofs.Emptiness.{answers-unique, answers-map}
 use Rattle.fdfa.proofs.Inclusion.{butNot, accepted-counterexample, counterexample-accepted, comparison-answers, contained-all}
@@ -18,7 +14,6 @@ use Rattle.fdfa.proofs.Reach.{counts-unique, reached-states, reached-pairs}
 use Rattle.packed.specs.Layout.{decode}
 use Rattle.packed.proofs.Soundness.{valid-packable}
 use Rattle.inclusion.specs.declared.Answer.{Answer}
-use Rattle.inclusion.specs.declared.Answer.the-variants.{Absent, Found, Refused}
 use Rattle.inclusion.specs.declared.Beside.{Beside}
 use Rattle.inclusion.specs.Answers.{Meets}
 use Rattle.inclusion.specs.Tables.{Twin, twin}

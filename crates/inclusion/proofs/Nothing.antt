@@ -1,19 +1,18 @@
 -- The sheet that accepts nothing is valid, and inclusion in it is emptiness. Assumes nothing.
 use mathlib.Core.Path.{_≡_, refl, ap, ap₂, sym, subst, subst₂, _∙_}
-use mathlib.Core.Bool.{Bool, true, false, not, _&&_}
-use mathlib.Core.List.{List, [], _∷_}
-use Prim.Native.Nat.{ℕ, zero, suc, _+_, _*_, _-_, _/_, _%_, _≤_, _<_}
+use mathlib.Core.Bool.{false}
+use mathlib.Core.List.{List, _∷_}
+use Prim.Native.Nat.{ℕ, zero, suc, _+_, _*_, _-_, _≤_, _<_}
 use native.Mathlib.Omega.{arith}
 use native.Mathlib.Nat.{mul-one, add-zero, not-suc-le-zero, le-of-suc-le-suc}
 use lib.Dec.{eqb}
 use lib.ListN.{length, getD, take, replicate, length-replicate}
 use Rattle.fdfa.specs.Words.{Over}
-use Rattle.fdfa.specs.Family.{Fdfa, Closed, Complete, walk, Lasso}
+use Rattle.fdfa.specs.Family.{Fdfa, Complete, walk}
 use Rattle.fdfa.specs.Normalization.{Normalized}
-use Rattle.fdfa.specs.Acceptance.{accepts}
 use Rattle.fdfa.specs.Boolean.{beside, product}
-use Rattle.fdfa.specs.Enumeration.{Witness, absent, lasso}
-use Rattle.fdfa.specs.Inclusion.{First, Counterexample, Accepted, Answers, none-has, first-is, Counts, of-none, has-it, lacks-it, Reached, widest, largest, emptiness}
+use Rattle.fdfa.specs.Enumeration.{Witness, lasso}
+use Rattle.fdfa.specs.Inclusion.{First, Counterexample, Accepted, Answers, first-is, Counts, of-none, has-it, lacks-it, Reached, widest, largest, emptiness}
 use Rattle.fdfa.proofs.Words.{walk-closed}
 use Rattle.fdfa.proofs.Normal.{back-normalized, normalized-accepts}
 use Rattle.fdfa.proofs.Product.{beside-start}
@@ -21,7 +20,7 @@ use Rattle.fdfa.proofs.Emptiness.{answers-unique, answers-map, emptiness-answer
 use Rattle.fdfa.proofs.Inclusion.{butNot, accepted-counterexample, counterexample-accepted}
 use Rattle.fdfa.proofs.Reach.{counts-unique, reached-states}
 use Rattle.packed.specs.Tables.{sum}
-use Rattle.packed.specs.Layout.{letterCount, stateCount, sizeOf, leadingAt, progressAt, marksAt, tableStep, decode, Valid}
+use Rattle.packed.specs.Layout.{letterCount, stateCount, sizeOf, leadingAt, progressAt, marksAt, decode, Valid}
 use Rattle.packed.proofs.Soundness.{valid-packable}
 use Rattle.search.proofs.Work.{zeros-getD}
 use Rattle.inclusion.specs.declared.Answer.{Answer}

@@ -1,22 +1,19 @@
 -- Where a counterexample's period ends: the test of the code and the search's target. Assumes nothing.
-use mathlib.Core.Path.{_≡_, refl, ap, ap₂, sym, subst, _∙_}
+use mathlib.Core.Path.{_≡_, refl, ap, ap₂, sym, _∙_}
 use mathlib.Core.Bool.{Bool, true, false, not, _&&_, true≢false}
 use mathlib.Core.List.{List}
-use Prim.Native.Nat.{ℕ, zero, suc, _+_, _*_, _/_, _%_, _≤_, _<_}
+use Prim.Native.Nat.{ℕ, zero, suc, _+_, _/_, _%_, _≤_, _<_}
 use native.Mathlib.Omega.{arith}
 use native.Mathlib.Nat.{mod-lt}
 use lib.Dec.{eqb, ltb}
 use lib.ListN.{length, getD}
 use borrow.Author.Tests.{lt-ltb, le-ltb, ltb-true, ltb-false, eq-eqb, eqb-true, ne-eqb}
-use Rattle.fdfa.specs.Family.{Fdfa}
 use Rattle.fdfa.proofs.Tests.{and-left, and-right, both, of-not}
 use Rattle.fdfa.proofs.Product.{left-below}
 use Rattle.packed.specs.Faults.{firstOutside}
 use Rattle.packed.proofs.Scan.{all-inside}
-use Rattle.search.proofs.Phases.{Target}
-use Rattle.inclusion.specs.declared.Beside.{Beside}
 use Rattle.inclusion.specs.declared.Progress.{Progress}
-use Rattle.inclusion.specs.Tables.{progressOf, ends, target, ProgressReads, twin}
+use Rattle.inclusion.specs.Tables.{ends, target, ProgressReads}
 
 and-false : (a b : Bool) → a ≡ false → a && b ≡ false
 and-false a b e = ap (λ (x : Bool). x && b) e

@@ -1,25 +1,25 @@
 -- From the cells to the letters: what is said and written of the lasso that the search found. Assumes nothing.
 use mathlib.Core.Path.{_≡_, refl, ap, ap₂, sym, subst, subst₂, _∙_}
-use mathlib.Core.Bool.{Bool, true, false, true≢false}
-use mathlib.Core.List.{List, []}
-use Prim.Native.Nat.{ℕ, _+_, _-_, _≤_, _<_}
+use mathlib.Core.Bool.{true, false, true≢false}
+use mathlib.Core.List.{List}
+use Prim.Native.Nat.{ℕ, _-_, _≤_, _<_}
 use native.Mathlib.Omega.{arith}
 use lib.Dec.{ltb}
 use lib.ListN.{length, take, drop, length-drop}
-use lib.Seq.{length-take-le, take-all, take-at}
+use lib.Seq.{length-take-le, take-at}
 use borrow.Author.Tests.{lt-ltb, le-ltb}
 use Rattle.fdfa.specs.declared.Part.{Part}
 use Rattle.fdfa.specs.declared.Part.the-variants.{Opening, Loop}
 use Rattle.fdfa.specs.declared.Refusal.{Refusal}
 use Rattle.fdfa.specs.Family.{Fdfa}
 use Rattle.fdfa.specs.Enumeration.{Witness, absent, lasso}
-use Rattle.fdfa.specs.Inclusion.{Counts, Reached, Accepted, Answers, none-has, first-is}
-use Rattle.fdfa.specs.Refusals.{Fault, sound, fault, _then_, when, Result, given, refused, unless}
+use Rattle.fdfa.specs.Inclusion.{Counts, Reached, Accepted, none-has, first-is}
+use Rattle.fdfa.specs.Refusals.{Fault, sound, fault, when, Result, given, unless}
 use Rattle.fdfa.specs.Slices.{written, filled}
 use Rattle.fdfa.proofs.Refusals.{when-fails, when-passes, passed, failed, refuses, gives, was-given}
 use Rattle.fdfa.proofs.Slices.{written-none}
-use Rattle.search.specs.Snoc.{Word, size, letters}
-use Rattle.search.specs.Paths.{Path, Readable, Deep, Filled, FirstAt}
+use Rattle.search.specs.Snoc.{Word, letters}
+use Rattle.search.specs.Paths.{Deep, Filled, FirstAt}
 use Rattle.search.proofs.Letters.{length-letters, first-letters}
 use Rattle.search.proofs.Reading.{path-one}
 use Rattle.search.proofs.Work.{tail-is}

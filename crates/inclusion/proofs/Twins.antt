@@ -1,9 +1,9 @@
 -- Two valid sheets side by side: their family of pairs is complete, and every table that the search reads lies within the
 -- sheets. Assumes nothing.
-use mathlib.Core.Path.{_≡_, refl, ap, ap₂, sym, subst, subst₂, _∙_}
-use mathlib.Core.Bool.{Bool, true, false, not, _&&_}
+use mathlib.Core.Path.{_≡_, refl, ap, sym, subst, subst₂, _∙_}
+use mathlib.Core.Bool.{not, _&&_}
 use mathlib.Core.List.{List}
-use Prim.Native.Nat.{ℕ, zero, suc, _+_, _*_, _/_, _%_, _≤_, _<_}
+use Prim.Native.Nat.{ℕ, _+_, _*_, _/_, _%_, _≤_, _<_}
 use native.Mathlib.Omega.{arith}
 use native.Mathlib.Nat.{mul-le-mul, mul-le-mul-left, mul-pos, mod-lt}
 use lib.Arith.{digits-lt}
@@ -22,7 +22,7 @@ use Rattle.packed.proofs.Bounds.{few-both, progress-first, progress-upto, Body,
 use Rattle.packed.proofs.Soundness.{valid-packable}
 use Rattle.search.specs.Paths.{Searchable}
 use Rattle.inclusion.specs.declared.Beside.{Beside}
-use Rattle.inclusion.specs.Tables.{stepOf, progressOf, PairReads, ProgressReads, Steps, Joint, Twin, twin}
+use Rattle.inclusion.specs.Tables.{progressOf, ProgressReads, Steps, Joint, Twin, twin}
 use Rattle.inclusion.specs.Search.{Room}
 
 -- two closed tables side by side

@@ -10,7 +10,7 @@ use Rattle.fdfa.specs.Family.{Fdfa, Lasso}
 use Rattle.fdfa.specs.Acceptance.{accepts}
 use Rattle.fdfa.specs.Enumeration.{Witness, absent, lasso}
 use Rattle.fdfa.specs.Inclusion as model
-use Rattle.fdfa.specs.Inclusion.{Counterexample, Accepted, Counts, Reached, ReachedPair, pairs, combinations, widest, comparison, emptiness}
+use Rattle.fdfa.specs.Inclusion.{Counterexample, Accepted, Counts, Reached, ReachedPair, pairs, combinations, widest}
 use Rattle.fdfa.specs.Invariance.{TurnProof}
 use Rattle.fdfa.specs.Refusals.{Fault, sound, _then_, when, Result, given, refused, unless}
 use Rattle.fdfa.specs.Slices.{filled}

@@ -1,8 +1,8 @@
 // The pairs of states of two automata as one table: row p has the next pair of the pair p by each letter.
 use crate::Beside;
-use crate::next_pair;
+use crate::searching::next_pair;
 ghost use mathlib.Core.Path.{_≡_};
-ghost use Prim.Native.Nat.{_+_, _*_, _≤_, _<_};
+ghost use Prim.Native.Nat.{_+_, _≤_, _<_};
 ghost use lib.ListN.{length};
 ghost use Rattle.inclusion.specs.Tables.{Steps, Rows, RowWritten};
 

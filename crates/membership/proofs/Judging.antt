@@ -2,7 +2,7 @@
 use mathlib.Core.Path.{_≡_, refl, ap, sym, _∙_}
 use mathlib.Core.Bool.{Bool}
 use mathlib.Core.List.{List, [], _∷_}
-use Prim.Native.Nat.{ℕ, zero, suc, _+_, _<_}
+use Prim.Native.Nat.{ℕ, _+_, _<_}
 use native.Mathlib.Omega.{arith}
 use lib.Dec.{eqb}
 use lib.ListN.{length, getD}
@@ -13,10 +13,10 @@ use Rattle.fdfa.specs.Words.{Over, turns}
 use Rattle.fdfa.specs.Family.{walk, Lasso}
 use Rattle.fdfa.specs.Normalization.{returnFrom, returning, after}
 use Rattle.fdfa.specs.Acceptance.{Verdict, verdict}
-use Rattle.fdfa.specs.Refusals.{Fault, sound, _then_, when, given}
+use Rattle.fdfa.specs.Refusals.{Fault, sound, _then_, when}
 use Rattle.fdfa.proofs.Refusals.{when-passes, passed, then-left, then-right, when-sound}
 use Rattle.fdfa.proofs.Words.{letters-over, over-letter, walk-append}
-use Rattle.packed.specs.Layout.{letterCount, stateCount, leadingAt, tableStep, decode, Valid}
+use Rattle.packed.specs.Layout.{letterCount, stateCount, decode, Valid}
 use Rattle.packed.specs.Faults.{scan, sheetFault}
 use Rattle.packed.proofs.Soundness.{sound-valid, valid-sound, scan-sound, sound-scan}
 use Rattle.membership.specs.Verdict.{lassoFault, Closing, Ends}

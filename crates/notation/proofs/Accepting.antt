@@ -1,28 +1,26 @@
 -- A number is read where its digits stand, and a row where its line stands. Assumes nothing.
 use mathlib.Core.Path.{_≡_, refl, ap, sym, subst, _∙_}
-use mathlib.Core.Bool.{Bool, true, false, cond, not, _||_, _&&_, true≢false}
+use mathlib.Core.Bool.{true, false, true≢false}
 use mathlib.Core.List.{List, [], _∷_, _++_}
-use Prim.Native.Nat.{ℕ, zero, suc, _+_, _*_, _-_, _/_, _%_, _≤_, _<_}
+use Prim.Native.Nat.{ℕ, zero, suc, _+_, _-_, _/_, _%_, _≤_, _<_}
 use native.Mathlib.Omega.{arith}
 use native.Mathlib.Decide.{decLt}
-use lib.Dec.{eqb, ltb, leb}
 use lib.ListN.{length, getD, length-append}
 use borrow.Author.Tests.{lt-ltb, ne-eqb}
 use Rattle.fdfa.proofs.Least.{least-is}
-use Rattle.fdfa.specs.Refusals.{Result, given}
-use Rattle.packed.specs.Tables.{rows}
+use Rattle.fdfa.specs.Refusals.{given}
 use Rattle.packed.specs.Faults.{outside, firstOutside}
 use Rattle.packed.proofs.Scan.{not-outside}
 use Rattle.packed.proofs.Tabulated.{getD-first, getD-second}
-use Rattle.notation.specs.declared.Number.the-variants.{Good, Bad}
+use Rattle.notation.specs.declared.Number.the-variants.{Good}
 use Rattle.notation.specs.declared.Column.{Column}
 use Rattle.notation.specs.Text.{digits, cell}
 use Rattle.notation.specs.Numerals.{runOf, valueOf, malformed, numberAt, skip, valueIn}
-use Rattle.notation.specs.Reading.{_andThen_, each, byteAt, literalAt, cellAt}
+use Rattle.notation.specs.Reading.{each, byteAt, literalAt, cellAt}
 use Rattle.notation.proofs.Decimal.{digits-one, digits-two, digits-three}
 use Rattle.notation.proofs.Runs.{number-good, skip-on}
 use Rattle.notation.proofs.Steps.{Steps, goes-on, byte-here, cell-good}
-use Rattle.notation.proofs.Standing.{At, at-right}
+use Rattle.notation.proofs.Standing.{At}
 
 -- every digit of a number is one
 abbrev Digits : List ℕ → Type 0

@@ -1,19 +1,17 @@
 -- What is read is valid, and its text is what was read. Assumes nothing.
-use mathlib.Core.Path.{_≡_, refl, ap, ap₂, sym, subst, _∙_}
+use mathlib.Core.Path.{_≡_, ap, ap₂, sym, _∙_}
 use mathlib.Core.Bool.{Bool}
 use mathlib.Core.List.{List, [], _∷_, _++_}
-use Prim.Native.Nat.{ℕ, suc, _+_, _*_, _≤_, _<_}
-use native.Mathlib.Omega.{arith}
-use lib.ListN.{length}
+use Prim.Native.Nat.{ℕ, _+_, _<_}
 use Rattle.fdfa.specs.Family.{Fdfa, Agrees}
-use Rattle.fdfa.specs.Refusals.{Result, given, sound, fault, when, unless}
+use Rattle.fdfa.specs.Refusals.{given}
 use Rattle.packed.specs.Tables.{tab, rows}
-use Rattle.packed.specs.Layout.{decode, mark, pack, Packable, Valid}
+use Rattle.packed.specs.Layout.{decode, mark, pack, Valid}
 use Rattle.packed.proofs.Tabulated.{tab-same, rows-same}
 use Rattle.packed.proofs.Packing.{decode-pack, pack-valid}
-use Rattle.notation.specs.Text.{line, lineOf, head, countsTitle, leadingTitle, progressTitle, countsText, leadingText, partText, progressText, textFor, textOf}
+use Rattle.notation.specs.Text.{lineOf, head, countsTitle, leadingTitle, progressTitle, leadingText, partText, progressText, textFor, textOf}
 use Rattle.notation.specs.Reading.{judged, familyOf, bytesOf}
-use Rattle.notation.proofs.ReadSound.{Found, found, readable, text-is}
+use Rattle.notation.proofs.ReadSound.{found, readable, text-is}
 
 -- families that agree have one text
 module _ (F G : Fdfa) (a : Agrees F G) where

@@ -2,23 +2,22 @@
 use mathlib.Core.Path.{_≡_, refl, ap, sym, subst, _∙_}
 use mathlib.Core.Bool.{Bool, true, false, not}
 use mathlib.Core.List.{List, [], _∷_, _++_}
-use Prim.Native.Nat.{ℕ, zero, suc, _+_, _*_, _-_, _≤_, _<_}
+use Prim.Native.Nat.{ℕ, suc, _+_, _*_, _-_, _≤_, _<_}
 use native.Mathlib.Omega.{arith}
 use native.Mathlib.Nat.{add-mul, add-assoc}
 use lib.Dec.{eqb}
 use lib.ListN.{length, getD, length-append}
 use borrow.Author.Tests.{eqb-true}
 use Rattle.fdfa.specs.declared.Part.the-variants.{First}
-use Rattle.fdfa.specs.Refusals.{Result, given, refused, unless, when}
-use Rattle.packed.specs.Tables.{tab, rows, sum}
+use Rattle.fdfa.specs.Refusals.{Result, given, unless, when}
+use Rattle.packed.specs.Tables.{rows, sum}
 use Rattle.packed.proofs.Tabulated.{rows-same}
-use Rattle.notation.specs.declared.Row.{Row}
-use Rattle.notation.specs.Text.{names, head, line, digits}
+use Rattle.notation.specs.Text.{names, head, line}
 use Rattle.notation.specs.Numerals.{skips, entry}
-use Rattle.notation.specs.Reading.{_andThen_, each, byteAt, literalAt, rowAt, columnOf, progressRow, namesAt, headAt, partsAt, endAt}
+use Rattle.notation.specs.Reading.{each, byteAt, literalAt, rowAt, columnOf, progressRow, namesAt, headAt, partsAt, endAt}
 use Rattle.notation.proofs.Standing.{At, at-append, at-rows}
 use Rattle.notation.proofs.LetterNames.{names-some}
-use Rattle.notation.proofs.CellsRead.{went, given-was, never-given, byte-was, each-was}
+use Rattle.notation.proofs.CellsRead.{went, never-given, byte-was, each-was}
 use Rattle.notation.proofs.Sheets.{line-same}
 use Rattle.notation.proofs.RowsRead.{skips-add, entry-add, RowsRead, rows-next, rows-was}
 

@@ -1,15 +1,14 @@
 -- The blocks of a sheet's text, stored one after the other. Assumes nothing.
-use mathlib.Core.Path.{_≡_, refl, ap, ap₂, sym, subst, _∙_}
+use mathlib.Core.Path.{_≡_, ap, _∙_}
 use mathlib.Core.List.{List, [], _∷_, _++_}
-use Prim.Native.Nat.{ℕ, zero, suc, _+_, _*_, _-_, _≤_, _<_}
+use Prim.Native.Nat.{ℕ, _+_, _*_, _-_, _≤_, _<_}
 use native.Mathlib.Omega.{arith}
-use lib.ListN.{length, getD, length-append}
+use lib.ListN.{length, getD}
 use Rattle.packed.specs.Tables.{tab, rows}
-use Rattle.packed.specs.Layout.{letterCount, stateCount, sizeOf, leadingAt, progressAt, marksAt, decode, Valid}
+use Rattle.packed.specs.Layout.{letterCount, stateCount, sizeOf, leadingAt, progressAt, decode, Valid}
 use Rattle.packed.proofs.Tabulated.{length-tab, tab-getD}
 use Rattle.packed.proofs.Bounds.{progress-first, progress-upto}
 use Rattle.packed.proofs.Reading.{part-of}
-use Rattle.notation.specs.declared.Lines.{Lines}
 use Rattle.notation.specs.Text.{names, head, lineOf, countsTitle, leadingTitle, progressTitle, countsText, leadingText, partText}
 use Rattle.notation.specs.Writing.{Stored, lineValue, lineText, linesText, Writable, AllWritable}
 use Rattle.notation.proofs.Stores.{stored-then, stored-as}

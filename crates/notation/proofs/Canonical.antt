@@ -1,25 +1,19 @@
 -- A number is read exactly where its digits stand. Assumes nothing.
 use mathlib.Core.Path.{_≡_, refl, ap, sym, subst, _∙_}
 use mathlib.Core.Bool.{Bool, true, false, cond, not, _||_, _&&_, true≢false}
-use mathlib.Core.List.{List, [], _∷_, _++_}
+use mathlib.Core.List.{List, [], _∷_}
 use Prim.Native.Nat.{ℕ, zero, suc, _+_, _*_, _-_, _/_, _%_, _≤_, _<_}
 use native.Mathlib.Omega.{arith}
-use native.Mathlib.Decide.{decLt}
 use lib.Dec.{eqb, ltb, leb}
-use lib.ListN.{length, getD, length-append}
-use borrow.Author.Tests.{lt-ltb, le-ltb, lt-leb, eq-eqb, ne-eqb, leb-false, eqb-false}
-use Rattle.fdfa.specs.Normalization.{least}
-use Rattle.fdfa.proofs.Least.{least-is}
-use Rattle.packed.specs.Faults.{outside, firstOutside}
-use Rattle.packed.proofs.Scan.{not-outside}
-use Rattle.packed.proofs.Tabulated.{getD-first, getD-second}
+use lib.ListN.{length, getD}
+use borrow.Author.Tests.{eq-eqb, ne-eqb, leb-false}
 use Rattle.notation.specs.declared.Number.{Number}
 use Rattle.notation.specs.declared.Number.the-variants.{Good, Bad}
-use Rattle.notation.specs.Text.{digits, cell}
-use Rattle.notation.specs.Numerals.{runOf, valueOf, malformed, numberAt, skip, valueIn}
+use Rattle.notation.specs.Text.{digits}
+use Rattle.notation.specs.Numerals.{runOf, valueOf, malformed, numberAt, valueIn}
 use Rattle.notation.proofs.Decimal.{digits-one, digits-two, digits-three}
-use Rattle.notation.proofs.Runs.{run-bound, run-digits, well-formed, number-good, skip-on}
-use Rattle.notation.proofs.Standing.{At, at-one, at-two, at-three, at-left}
+use Rattle.notation.proofs.Runs.{run-bound, run-digits, well-formed}
+use Rattle.notation.proofs.Standing.{At, at-one, at-two, at-three}
 
 -- A number v was read at a place: its digits stand there, as long as the run.
 pub record Standing (t : List ℕ) (at v after : ℕ) : Type 0 where

@@ -1,31 +1,28 @@
 -- What a row that is read says: its numbers stand there, each within its column. Assumes nothing.
 use mathlib.Core.Path.{_≡_, refl, ap, sym, subst, _∙_}
-use mathlib.Core.Bool.{Bool, true, false, not, _||_, _&&_}
-use mathlib.Core.List.{List, [], _∷_, _++_}
-use Prim.Native.Nat.{ℕ, zero, suc, _+_, _*_, _-_, _≤_, _<_}
+use mathlib.Core.Bool.{Bool, true, false, not, _&&_}
+use mathlib.Core.List.{List, [], _∷_}
+use Prim.Native.Nat.{ℕ, zero, suc, _+_, _-_, _≤_, _<_}
 use native.Mathlib.Omega.{arith}
-use native.Mathlib.Numerals.{add-one}
 use native.Mathlib.Decide.{ℕ-discrete}
-use lib.Dec.{eqb, ltb, leb}
+use lib.Dec.{eqb, ltb}
 use lib.ListN.{length, getD, length-append}
 use borrow.Author.Tests.{ltb-true, eqb-true}
 use Rattle.fdfa.specs.declared.Part.the-variants.{First}
 use Rattle.fdfa.specs.declared.Refusal.{Refusal}
 use Rattle.fdfa.specs.Refusals.{Result, given, refused, unless, when}
-use Rattle.packed.specs.Tables.{rows}
 use Rattle.packed.specs.Faults.{outside}
 use Rattle.packed.proofs.Scan.{inside}
 use Rattle.notation.specs.declared.Number.{Number}
 use Rattle.notation.specs.declared.Number.the-variants.{Good, Bad}
 use Rattle.notation.specs.declared.Column.{Column}
-use Rattle.notation.specs.declared.Row.{Row}
-use Rattle.notation.specs.Text.{digits, cell, separator, line}
-use Rattle.notation.specs.Numerals.{runOf, numberAt, skip, skips, entry, valueIn}
-use Rattle.notation.specs.Reading.{_andThen_, each, byteAt, judgedNumber, cellAt, columnOf, rowAt}
-use Rattle.notation.proofs.Steps.{Steps, goes-on, stops}
+use Rattle.notation.specs.Text.{digits, cell}
+use Rattle.notation.specs.Numerals.{numberAt, skip, valueIn}
+use Rattle.notation.specs.Reading.{_andThen_, each, byteAt, judgedNumber, cellAt}
+use Rattle.notation.proofs.Steps.{Steps}
 use Rattle.notation.proofs.Runs.{skip-on}
-use Rattle.notation.proofs.Standing.{At, at-one, at-append, at-rows}
-use Rattle.notation.proofs.Canonical.{Standing, number-was}
+use Rattle.notation.proofs.Standing.{At, at-one, at-append}
+use Rattle.notation.proofs.Canonical.{number-was}
 
 abbrev IsRefused : Result ℕ → Type 0
 IsRefused (given e) = ⊥

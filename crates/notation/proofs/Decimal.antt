@@ -1,14 +1,14 @@
 -- The digits of a number, by its size. Assumes nothing.
-use mathlib.Core.Path.{_≡_, refl, ap, sym, subst, _∙_}
+use mathlib.Core.Path.{_≡_, ap, sym, _∙_}
 use mathlib.Core.Bool.{Bool, true, false, cond}
 use mathlib.Core.List.{List, [], _∷_, _++_}
-use Prim.Native.Nat.{ℕ, zero, suc, _+_, _*_, _/_, _%_, _≤_, _<_}
+use Prim.Native.Nat.{ℕ, _+_, _*_, _/_, _%_, _≤_, _<_}
 use native.Mathlib.Omega.{arith}
-use lib.Dec.{ltb, eqb}
+use lib.Dec.{ltb}
 use lib.ListN.{length, length-append}
 use borrow.Author.Tests.{lt-ltb, le-ltb}
 use Rattle.packed.specs.Tables.{rows}
-use Rattle.notation.specs.Text.{digits, separator, cell, line}
+use Rattle.notation.specs.Text.{digits, separator, cell}
 use Rattle.notation.specs.Writing.{Stored}
 use Rattle.notation.proofs.Stores.{length-rows-le, stored-then, stored-as}
 

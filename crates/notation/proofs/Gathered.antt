@@ -1,18 +1,18 @@
 -- The numbers of a text, gathered in the order of the packed sheet. Assumes nothing.
-use mathlib.Core.Path.{_≡_, refl, ap, ap₂, sym, subst, _∙_}
+use mathlib.Core.Path.{_≡_, refl, ap, sym, _∙_}
 use mathlib.Core.List.{List, [], _∷_, _++_}
-use Prim.Native.Nat.{ℕ, zero, suc, _+_, _*_, _-_, _≤_, _<_}
+use Prim.Native.Nat.{ℕ, _+_, _*_, _-_, _≤_, _<_}
 use native.Mathlib.Omega.{arith}
 use native.Mathlib.Nat.{add-mul, mul-add, mul-one}
-use lib.ListN.{length, set, length-set, length-append}
-use Rattle.packed.specs.Tables.{tab, rows, sum}
+use lib.ListN.{length, set, length-set}
+use Rattle.packed.specs.Tables.{tab, sum}
 use Rattle.packed.specs.Layout.{mark, table, frontBytes, partBytes}
-use Rattle.packed.proofs.Tabulated.{length-tab, length-table, tab-same, rows-same}
+use Rattle.packed.proofs.Tabulated.{tab-same, rows-same}
 use Rattle.packed.proofs.Packing.{length-front, length-part}
 use Rattle.notation.specs.Numerals.{skips, entry}
-use Rattle.notation.specs.Reading.{lettersIn, statesIn, sizeIn, leadIn, progressIn, progressEntry, familyOf, Readable}
+use Rattle.notation.specs.Reading.{lettersIn, statesIn, leadIn, progressIn, progressEntry, familyOf, Readable}
 use Rattle.notation.specs.Writing.{Stored}
-use Rattle.notation.proofs.Stores.{stored-then, stored-as, stored-length}
+use Rattle.notation.proofs.Stores.{stored-then, stored-as}
 use Rattle.notation.proofs.Sheets.{mark-byte}
 use Rattle.notation.proofs.RowsRead.{skips-add, entry-add}
 use Rattle.notation.proofs.Measures.{sum-next}

@@ -1,23 +1,21 @@
 -- Reading succeeds exactly on the texts of valid sheets, and reading and writing are inverse. Assumes nothing.
 use mathlib.Core.Path.{_≡_, refl, ap, ap₂, sym, subst, _∙_}
-use mathlib.Core.Bool.{Bool}
 use mathlib.Core.List.{List, [], _∷_, _++_}
-use Prim.Native.Nat.{ℕ, _+_, _*_, _≤_, _<_}
+use Prim.Native.Nat.{ℕ, _+_, _<_}
 use native.Mathlib.Omega.{arith}
 use lib.Dec.{ltb}
 use lib.ListN.{length, length-append}
 use Rattle.fdfa.specs.declared.Part.the-variants.{Out}
 use Rattle.fdfa.specs.Family.{Fdfa, Agrees}
-use Rattle.fdfa.specs.Refusals.{Fault, sound, fault, _then_, when, Result, given, refused, unless}
+use Rattle.fdfa.specs.Refusals.{Fault, sound, fault, _then_, when, Result, given, refused}
 use Rattle.fdfa.proofs.Refusals.{passed, then-left}
 use Rattle.packed.specs.Tables.{tab, rows, sum}
-use Rattle.packed.specs.Layout.{decode, mark, table, frontBytes, partBytes, pack, Packable, Valid}
+use Rattle.packed.specs.Layout.{decode, mark, table, partBytes, pack, Valid}
 use Rattle.packed.proofs.Tabulated.{tab-same, rows-same, length-rows, sum-same}
 use Rattle.packed.proofs.Soundness.{valid-packable}
 use Rattle.packed.proofs.Packing.{pack-decode}
 use Rattle.notation.specs.Text.{digits, cell, separator, line, lineOf, names, head, countsTitle, leadingTitle, progressTitle, countsText, leadingText, partText, progressText, textFor, textOf}
 use Rattle.notation.specs.Reading.{judged, familyOf, bytesOf, faultOf, readFault}
-use Rattle.notation.proofs.CellsRead.{given-was}
 use Rattle.notation.proofs.Agreeing.{read-valid, read-text}
 use Rattle.notation.proofs.RoundTrip.{text-judged, text-family}
 

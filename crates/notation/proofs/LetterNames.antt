@@ -7,7 +7,7 @@ use native.Mathlib.Nat.{add-suc, add-zero}
 use native.Mathlib.Decide.{decLt}
 use lib.ListN.{length, getD, length-append}
 use Rattle.packed.specs.Tables.{tab, rows}
-use Rattle.packed.proofs.Tabulated.{length-tab, getD-first, tab-same, tab-getD}
+use Rattle.packed.proofs.Tabulated.{getD-first, tab-same, tab-getD}
 use Rattle.notation.specs.Text.{digits, names}
 use Rattle.notation.proofs.Decimal.{digits-one, digits-two}
 

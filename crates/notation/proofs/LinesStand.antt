@@ -1,5 +1,5 @@
 -- Rows are read where their lines stand, and their numbers are those of the lines. Assumes nothing.
-use mathlib.Core.Path.{_≡_, refl, ap, sym, subst, _∙_}
+use mathlib.Core.Path.{_≡_, refl, ap, sym, _∙_}
 use mathlib.Core.Bool.{Bool, true, false, cond}
 use mathlib.Core.List.{List, [], _∷_, _++_}
 use Prim.Native.Nat.{ℕ, zero, suc, _+_, _*_, _-_, _≤_, _<_}
@@ -7,13 +7,13 @@ use native.Mathlib.Omega.{arith}
 use native.Mathlib.Nat.{suc-mul, add-mul, add-assoc}
 use lib.Dec.{eqb}
 use lib.ListN.{length, getD, length-append}
-use Rattle.fdfa.specs.Refusals.{Result, given}
+use Rattle.fdfa.specs.Refusals.{given}
 use Rattle.packed.specs.Tables.{rows, sum}
 use Rattle.notation.specs.declared.Row.{Row}
-use Rattle.notation.specs.Text.{digits, cell, separator, line, names, head}
+use Rattle.notation.specs.Text.{cell, separator, line, names, head}
 use Rattle.notation.specs.Numerals.{numberAt, skip, skips, entry, valueIn}
-use Rattle.notation.specs.Reading.{_andThen_, each, byteAt, literalAt, cellAt, columnOf, rowAt, namesAt, headAt}
-use Rattle.notation.proofs.Steps.{Steps, goes-on, byte-here}
+use Rattle.notation.specs.Reading.{each, byteAt, cellAt, columnOf, rowAt, namesAt, headAt}
+use Rattle.notation.proofs.Steps.{goes-on, byte-here}
 use Rattle.notation.proofs.Standing.{At, at-left, at-right, row-at}
 use Rattle.notation.proofs.RowsRead.{skips-add, entry-add}
 use Rattle.notation.proofs.Accepting.{value-is, skip-is, cell-is, each-is, literal-is}

@@ -1,18 +1,18 @@
 -- How long the packed sheet of a text is, and where its parts lie. Assumes nothing.
-use mathlib.Core.Path.{_≡_, refl, ap, ap₂, sym, subst, _∙_}
-use mathlib.Core.List.{List, [], _∷_, _++_}
+use mathlib.Core.Path.{_≡_, refl, ap, ap₂, _∙_}
+use mathlib.Core.List.{List, _++_}
 use Prim.Native.Nat.{ℕ, zero, suc, _+_, _*_, _-_, _≤_, _<_}
 use native.Mathlib.Omega.{arith}
 use native.Mathlib.Numerals.{add-one}
 use native.Mathlib.Nat.{mul-le-mul, suc-mul, le-refl}
 use native.Mathlib.Decide.{ℕ-discrete}
-use lib.ListN.{length, getD, length-append}
-use Rattle.packed.specs.Tables.{tab, rows, sum}
-use Rattle.packed.specs.Layout.{table, frontBytes, partBytes, pack}
+use lib.ListN.{length, length-append}
+use Rattle.packed.specs.Tables.{rows, sum}
+use Rattle.packed.specs.Layout.{frontBytes, partBytes}
 use Rattle.packed.proofs.Tabulated.{length-rows, sum-same}
 use Rattle.packed.proofs.Bounds.{sum-le, few-both, part-few}
 use Rattle.packed.proofs.Packing.{length-front, length-part}
-use Rattle.notation.specs.Reading.{lettersIn, statesIn, sizeIn, leadIn, progressIn, progressEntry, familyOf, Readable, bytesOf}
+use Rattle.notation.specs.Reading.{lettersIn, statesIn, familyOf, Readable, bytesOf}
 
 pub sum-next : (f : ℕ → ℕ) (q : ℕ) → sum (q + 1) f ≡ sum q f + f q
 unfolding sum

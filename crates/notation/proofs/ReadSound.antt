@@ -7,16 +7,14 @@ use native.Mathlib.Omega.{arith}
 use lib.Dec.{eqb}
 use lib.ListN.{length, getD, length-append}
 use borrow.Author.Tests.{ne-eqb}
-use Rattle.fdfa.specs.Family.{Fdfa}
-use Rattle.fdfa.specs.Refusals.{Result, given, refused}
-use Rattle.packed.specs.Tables.{tab, rows, sum}
-use Rattle.packed.specs.Layout.{mark, Packable}
+use Rattle.fdfa.specs.Refusals.{given}
+use Rattle.packed.specs.Tables.{tab, rows}
+use Rattle.packed.specs.Layout.{mark}
 use Rattle.packed.proofs.Tabulated.{length-tab, getD-tab, rows-same}
 use Rattle.notation.specs.declared.Column.{Column}
-use Rattle.notation.specs.declared.Row.{Row}
 use Rattle.notation.specs.Text.{names, head, line, lineOf, countsTitle, leadingTitle, progressTitle, countsText, leadingText, partText, progressText, textFor}
 use Rattle.notation.specs.Numerals.{skips, entry}
-use Rattle.notation.specs.Reading.{_andThen_, each, literalAt, rowAt, columnOf, below, countsRow, leadingRow, progressRow, headAt, leadingAt, partsAt, progressAt, endAt, leadingRowsAt, sizeIn, blocksAt, countsAt, judged, lettersIn, statesIn, leadIn, progressIn, progressEntry, familyOf, Readable}
+use Rattle.notation.specs.Reading.{_andThen_, each, literalAt, rowAt, columnOf, below, countsRow, leadingRow, progressRow, headAt, leadingAt, partsAt, progressAt, endAt, sizeIn, blocksAt, countsAt, judged, lettersIn, statesIn, leadIn, progressIn, progressEntry, familyOf, Readable}
 use Rattle.notation.proofs.Standing.{At, at-append, at-whole}
 use Rattle.notation.proofs.Sheets.{line-same, mark-byte}
 use Rattle.notation.proofs.CellsRead.{went}

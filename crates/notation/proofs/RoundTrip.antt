@@ -1,5 +1,5 @@
 -- The text of a family that has a packed form is read, and says that family. Assumes nothing.
-use mathlib.Core.Path.{_≡_, refl, ap, ap₂, sym, subst, _∙_}
+use mathlib.Core.Path.{_≡_, refl, ap, sym, subst, _∙_}
 use mathlib.Core.Bool.{Bool, true, false, not}
 use mathlib.Core.List.{List, [], _∷_, _++_}
 use Prim.Native.Nat.{ℕ, zero, suc, _+_, _*_, _-_, _≤_, _<_}
@@ -9,14 +9,14 @@ use lib.ListN.{length, getD, length-append}
 use borrow.Author.Tests.{eq-eqb}
 use Rattle.fdfa.specs.declared.Part.the-variants.{First}
 use Rattle.fdfa.specs.Family.{Fdfa, Agrees}
-use Rattle.fdfa.specs.Refusals.{Result, given, unless, when}
+use Rattle.fdfa.specs.Refusals.{given, unless, when}
 use Rattle.packed.specs.Tables.{tab, rows, sum}
 use Rattle.packed.specs.Layout.{mark, Packable}
 use Rattle.packed.proofs.Tabulated.{length-tab, getD-tab, rows-same, sum-same}
 use Rattle.notation.specs.declared.Column.{Column}
 use Rattle.notation.specs.Text.{names, head, line, lineOf, countsTitle, leadingTitle, progressTitle, countsText, leadingText, partText, progressText, textFor}
 use Rattle.notation.specs.Numerals.{skips, entry}
-use Rattle.notation.specs.Reading.{_andThen_, each, rowAt, columnOf, countsRow, leadingRow, progressRow, headAt, leadingAt, partsAt, progressAt, endAt, leadingRowsAt, sizeIn, blocksAt, countsAt, judged, lettersIn, statesIn, leadIn, progressIn, progressEntry, familyOf}
+use Rattle.notation.specs.Reading.{each, rowAt, columnOf, countsRow, leadingRow, progressRow, leadingAt, partsAt, progressAt, endAt, leadingRowsAt, sizeIn, blocksAt, countsAt, judged, lettersIn, statesIn, leadIn, progressIn, progressEntry, familyOf}
 use Rattle.notation.proofs.Steps.{goes-on, each-same}
 use Rattle.notation.proofs.Sheets.{line-same}
 use Rattle.notation.proofs.Standing.{At, at-left, at-right, at-self}

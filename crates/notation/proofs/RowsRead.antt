@@ -1,18 +1,16 @@
 -- What rows that are read say: where their numbers stand, and that these are in range. Assumes nothing.
-use mathlib.Core.Path.{_≡_, refl, ap, sym, subst, _∙_}
-use mathlib.Core.List.{List, [], _∷_, _++_}
+use mathlib.Core.Path.{_≡_, ap, sym, subst, _∙_}
+use mathlib.Core.List.{List}
 use Prim.Native.Nat.{ℕ, zero, suc, _+_, _*_, _-_, _≤_, _<_}
 use native.Mathlib.Omega.{arith}
-use native.Mathlib.Nat.{add-zero, add-suc, suc-mul, add-mul}
-use lib.ListN.{length, getD}
-use Rattle.fdfa.specs.Refusals.{Result, given, refused}
-use Rattle.packed.specs.Tables.{rows, sum}
-use Rattle.notation.specs.declared.Column.{Column}
+use native.Mathlib.Nat.{add-zero, add-suc, suc-mul}
+use lib.ListN.{length}
+use Rattle.fdfa.specs.Refusals.{given}
+use Rattle.packed.specs.Tables.{rows}
 use Rattle.notation.specs.declared.Row.{Row}
-use Rattle.notation.specs.Text.{digits, cell, separator, line}
+use Rattle.notation.specs.Text.{cell, separator, line}
 use Rattle.notation.specs.Numerals.{numberAt, skip, skips, entry, valueIn}
 use Rattle.notation.specs.Reading.{each, cellAt, columnOf, rowAt, countsRow}
-use Rattle.notation.proofs.Steps.{Steps}
 use Rattle.notation.proofs.Sheets.{line-same}
 use Rattle.notation.proofs.Standing.{At, at-rows}
 use Rattle.notation.proofs.Canonical.{number-small}

@@ -1,17 +1,16 @@
 -- Runs of digits, and when a run is a number. Assumes nothing.
 use mathlib.Core.Path.{_≡_, refl, ap, sym, subst, _∙_}
-use mathlib.Core.Bool.{Bool, true, false, cond, not, _||_, _&&_, true≢false}
+use mathlib.Core.Bool.{Bool, true, false, not, _||_, _&&_, true≢false}
 use mathlib.Core.List.{List}
 use Prim.Native.Nat.{ℕ, zero, suc, _+_, _*_, _-_, _≤_, _<_}
 use native.Mathlib.Omega.{arith}
-use lib.Dec.{eqb, ltb, leb}
+use lib.Dec.{eqb, ltb}
 use lib.ListN.{length, getD}
-use borrow.Author.Tests.{lt-ltb, le-ltb, le-leb, lt-leb, eq-eqb, ne-eqb, ltb-false, eqb-false}
+use borrow.Author.Tests.{le-leb, lt-leb, ltb-false, eqb-false}
 use Rattle.fdfa.specs.Normalization.{least}
 use Rattle.fdfa.proofs.Least.{least-before, least-bound}
 use Rattle.packed.specs.Faults.{outside, firstOutside}
 use Rattle.packed.proofs.Scan.{inside}
-use Rattle.notation.specs.declared.Number.{Number}
 use Rattle.notation.specs.declared.Number.the-variants.{Good, Bad}
 use Rattle.notation.specs.Numerals.{runOf, valueOf, malformed, numberAt, skip}
 

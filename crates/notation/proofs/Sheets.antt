@@ -1,18 +1,18 @@
 -- The lines of a sheet, by its bytes. Assumes nothing.
-use mathlib.Core.Path.{_≡_, refl, ap, ap₂, sym, subst, _∙_}
-use mathlib.Core.List.{List, [], _∷_, _++_}
+use mathlib.Core.Path.{_≡_, refl, ap, sym, _∙_}
+use mathlib.Core.List.{List, [], _∷_}
 use Prim.Native.Nat.{ℕ, zero, suc, _+_, _*_, _-_, _≤_, _<_}
 use native.Mathlib.Omega.{arith}
 use lib.Dec.{eqb}
-use lib.ListN.{length, getD}
+use lib.ListN.{getD}
 use borrow.Author.Tests.{le-leb}
 use Rattle.packed.specs.Tables.{tab, rows}
 use Rattle.packed.specs.Layout.{letterCount, stateCount, sizeOf, leadingAt, progressAt, marksAt, tableStep, decode, mark, Valid}
 use Rattle.packed.proofs.Tabulated.{length-tab, getD-tab, rows-same}
 use Rattle.notation.specs.declared.Line.{Line}
 use Rattle.notation.specs.declared.Lines.{Lines}
-use Rattle.notation.specs.Text.{digits, cell, separator, line, lineOf, leadingText, partText}
-use Rattle.notation.specs.Writing.{lineValue, lineText, lineIn, linesText}
+use Rattle.notation.specs.Text.{cell, separator, line, lineOf, partText}
+use Rattle.notation.specs.Writing.{lineValue, lineText, linesText}
 
 pub line-same : (m n : ℕ) (f g : ℕ → ℕ) → m ≡ n → ((i : ℕ) → i < n → f i ≡ g i) → line m f ≡ line n g
 line-same m n f g e h =

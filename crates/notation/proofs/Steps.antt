@@ -1,16 +1,14 @@
 -- Steps of reading, one after the other: what is left says the same as the whole. Assumes nothing.
-use mathlib.Core.Path.{_≡_, refl, ap, sym, subst, _∙_}
-use mathlib.Core.Bool.{Bool, true, false, not, _&&_}
+use mathlib.Core.Path.{_≡_, refl, ap, sym, _∙_}
 use mathlib.Core.List.{List}
-use Prim.Native.Nat.{ℕ, zero, suc, _+_, _*_, _-_, _≤_, _<_}
+use Prim.Native.Nat.{ℕ, zero, suc, _+_, _-_, _≤_, _<_}
 use native.Mathlib.Omega.{arith}
 use native.Mathlib.Numerals.{add-one}
-use lib.Dec.{eqb, ltb, leb}
 use lib.ListN.{length, getD}
 use borrow.Author.Tests.{lt-ltb, le-ltb, le-leb, lt-leb, eq-eqb, ne-eqb}
 use Rattle.fdfa.specs.declared.Part.the-variants.{First}
 use Rattle.fdfa.specs.declared.Refusal.{Refusal}
-use Rattle.fdfa.specs.Refusals.{Result, given, refused, unless, when}
+use Rattle.fdfa.specs.Refusals.{Result, given, refused}
 use Rattle.notation.specs.declared.Number.the-variants.{Good, Bad}
 use Rattle.notation.specs.declared.Column.{Column}
 use Rattle.notation.specs.Numerals.{numberAt}

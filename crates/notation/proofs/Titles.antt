@@ -1,12 +1,12 @@
 -- The names of the letters, read off one fixed text. Assumes nothing.
-use mathlib.Core.Path.{_≡_, refl, ap, sym, _∙_}
+use mathlib.Core.Path.{_≡_, ap, sym, _∙_}
 use mathlib.Core.List.{List}
-use Prim.Native.Nat.{ℕ, _+_, _≤_, _<_}
+use Prim.Native.Nat.{ℕ, _≤_, _<_}
 use native.Mathlib.Omega.{arith}
 use lib.ListN.{length, getD}
 use Rattle.packed.proofs.Tabulated.{getD-tab}
 use Rattle.notation.specs.Text.{names}
-use Rattle.notation.specs.Reading.{each, byteAt, literalAt}
+use Rattle.notation.specs.Reading.{byteAt, literalAt}
 use Rattle.notation.proofs.LetterNames.{allNames, names-part}
 use Rattle.notation.proofs.Steps.{each-same}
 

@@ -1,9 +1,9 @@
 -- Reading a text from left to right, for any bytes: what is refused first is refused at the smallest place. Assumes nothing.
-use mathlib.Core.Bool.{Bool, cond, _&&_, not}
+use mathlib.Core.Bool.{cond, _&&_, not}
 use mathlib.Core.List.{List}
 use Prim.Native.Nat.{ℕ, zero, suc, _+_, _*_, _<_}
 use Rattle.packed.specs.Tables.{sum}
-use lib.Dec.{eqb, ltb, leb}
+use lib.Dec.{eqb, ltb}
 use lib.ListN.{length, getD}
 use Rattle.fdfa.specs.declared.Part.the-variants.{First, Out}
 use Rattle.fdfa.specs.Family.{Fdfa}

@@ -10,7 +10,7 @@ ghost use lib.ListN.{length};
 ghost use Rattle.packed.specs.Tables.{tab, rows, sum};
 ghost use Rattle.packed.specs.Layout.{table, frontBytes, partBytes};
 ghost use Rattle.notation.specs.Numerals.{skips, entry};
-ghost use Rattle.notation.specs.Reading.{lettersIn, statesIn, leadIn, progressIn, sizeIn, familyOf, Readable, bytesOf};
+ghost use Rattle.notation.specs.Reading.{lettersIn, statesIn, leadIn, progressIn, familyOf, Readable, bytesOf};
 ghost use Rattle.notation.specs.Writing.{Stored};
 
 fn narrow(x: usize) -> u8

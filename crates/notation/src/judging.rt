@@ -9,8 +9,8 @@ use crate::writing::separator;
 use fdfa::Part;
 use fdfa::Refusal;
 ghost use mathlib.Core.Path.{_≡_};
-ghost use Prim.Native.Nat.{ℕ, _+_, _≤_, _<_};
-ghost use lib.ListN.{length, getD};
+ghost use Prim.Native.Nat.{_+_, _≤_, _<_};
+ghost use lib.ListN.{length};
 ghost use Rattle.fdfa.specs.declared.Part.the-variants.{First};
 ghost use Rattle.notation.specs.Reading.{_andThen_, each, byteAt, literalAt, cellAt, columnOf, rowAt, due, turnedOf, namesAt, stepSays};
 

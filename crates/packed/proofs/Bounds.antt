@@ -1,10 +1,9 @@
 -- Where the tables of a sheet lie: each part after the one before it, none past 34,850. Assumes nothing.
-use mathlib.Core.Path.{_≡_, refl, ap, ap₂, sym, _∙_}
+use mathlib.Core.Path.{_≡_, ap, _∙_}
 use mathlib.Core.List.{List}
 use Prim.Native.Nat.{ℕ, zero, suc, _+_, _*_, _-_, _≤_, _<_}
 use native.Mathlib.Omega.{arith}
-use native.Mathlib.Decide.{ℕ-discrete}
-use native.Mathlib.Nat.{mul-le-mul, suc-mul, mul-one, mul-add, mul-suc, le-refl}
+use native.Mathlib.Nat.{mul-le-mul, suc-mul, mul-one, mul-add, le-refl}
 use native.Mathlib.Numerals.{add-one}
 use lib.ListN.{length}
 use Rattle.packed.specs.Tables.{sum}

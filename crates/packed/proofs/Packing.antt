@@ -2,7 +2,7 @@
 -- valid sheet that says that family. Assumes nothing.
 use mathlib.Core.Path.{_≡_, refl, ap, ap₂, sym, subst, _∙_}
 use mathlib.Core.Bool.{Bool, true, false}
-use mathlib.Core.List.{List, [], _∷_, _++_, append-assoc}
+use mathlib.Core.List.{List, [], _∷_, _++_}
 use Prim.Native.Nat.{ℕ, zero, suc, _+_, _*_, _-_, _≤_, _<_}
 use native.Mathlib.Omega.{arith}
 use native.Mathlib.Nat.{mul-add, mul-one, add-assoc}
@@ -10,14 +10,13 @@ use lib.Arith.{digits-lt}
 use lib.Dec.{eqb}
 use lib.ListN.{length, getD, take, drop, length-append, length-drop}
 use lib.Seq.{take-at, getD-take, getD-drop, length-take-le, ext-getD}
-use borrow.Author.Tests.{eq-eqb, ne-eqb}
-use Rattle.fdfa.specs.Family.{Fdfa, Closed, Complete, Agrees}
+use Rattle.fdfa.specs.Family.{Fdfa, Agrees}
 use Rattle.packed.specs.Tables.{tab, rows, sum}
-use Rattle.packed.specs.Layout.{letterCount, stateCount, sizeOf, leadingAt, progressAt, marksAt, sheetLength, tableStep, decode, mark, table, frontBytes, partBytes, pack, Packable, Header, Valid}
+use Rattle.packed.specs.Layout.{letterCount, stateCount, sizeOf, progressAt, marksAt, sheetLength, decode, mark, table, frontBytes, partBytes, pack, Packable, Valid}
 use Rattle.packed.proofs.Bounds.{progress-first}
 use Rattle.packed.proofs.Reading.{part-of}
 use Rattle.packed.proofs.Soundness.{valid-packable}
-use Rattle.packed.proofs.Tabulated.{length-tab, getD-first, getD-second, getD-tab, tab-getD, tab-same, rows-same, tab-append, rows-tab, sum-same, table-tab, length-rows, sum-rises, getD-rows, length-table, getD-table}
+use Rattle.packed.proofs.Tabulated.{length-tab, getD-first, getD-second, getD-tab, tab-getD, tab-same, rows-same, tab-append, rows-tab, sum-same, table-tab, length-rows, getD-rows, length-table, getD-table}
 
 -- a mark says its byte
 mark-byte : (x : ℕ) → x < 2 → mark (eqb x 1) ≡ x

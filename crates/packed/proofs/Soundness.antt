@@ -1,11 +1,10 @@
 -- A sheet is refused for nothing exactly if it is valid. Assumes nothing.
 use mathlib.Core.Path.{_≡_, refl, ap, sym, subst, _∙_}
-use mathlib.Core.Bool.{Bool, true, false, not, true≢false}
+use mathlib.Core.Bool.{true, false, not, true≢false}
 use mathlib.Core.List.{List}
 use Prim.Native.Nat.{ℕ, zero, suc, _+_, _*_, _/_, _%_, _≤_, _<_}
 use native.Mathlib.Omega.{arith}
 use native.Mathlib.Decide.{ℕ-discrete}
-use native.Mathlib.Numerals.{add-one}
 use native.Mathlib.Nat.{div-add-mod', div-lt-iff-lt-mul, mod-lt}
 use lib.Arith.{digits-lt}
 use lib.Dec.{ltb, eqb}
@@ -13,7 +12,7 @@ use lib.ListN.{length, getD}
 use borrow.Author.Tests.{le-ltb, ltb-false, eq-eqb, eqb-true, not-false}
 use Rattle.fdfa.specs.declared.Part.{Part}
 use Rattle.fdfa.specs.declared.Part.the-variants.{First, Second}
-use Rattle.fdfa.specs.Family.{Closed, Complete}
+use Rattle.fdfa.specs.Family.{Closed}
 use Rattle.fdfa.specs.Refusals.{Fault, sound, _then_, when, given}
 use Rattle.fdfa.proofs.Least.{least-none}
 use Rattle.fdfa.proofs.Refusals.{when-passes, passed, then-left, then-right, when-sound, gives, was-given}

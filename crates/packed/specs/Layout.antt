@@ -1,9 +1,9 @@
 -- The packed sheet (01): one byte each, s; n; k(0) to k(n − 1); the leading next states, state by state and letter by
 -- letter; then for each q its next states in the same manner followed by its k(q) marks. Assumes nothing.
-use mathlib.Core.Bool.{Bool, true, false, cond}
+use mathlib.Core.Bool.{Bool, true, false}
 use mathlib.Core.List.{List, [], _∷_, _++_}
 use mathlib.Core.Path.{_≡_}
-use Prim.Native.Nat.{ℕ, zero, suc, _+_, _*_, _≤_, _<_}
+use Prim.Native.Nat.{ℕ, _+_, _*_, _≤_, _<_}
 use lib.Dec.{eqb}
 use lib.ListN.{length, getD}
 use Rattle.fdfa.specs.Family.{Fdfa, Closed, Complete}

@@ -3,7 +3,6 @@ use mathlib.Core.Path.{_≡_, refl, ap, sym, subst, _∙_}
 use mathlib.Core.Bool.{Bool, true, false, cond, true≢false}
 use mathlib.Core.List.{List}
 use Prim.Native.Nat.{ℕ, _≤_, _<_}
-use lib.Dec.{ltb}
 use lib.ListN.{length}
 use borrow.Author.Tests.{lt-ltb, le-ltb}
 use Rattle.fdfa.specs.Inclusion.{comparison}
@@ -14,7 +13,7 @@ use Rattle.inclusion.specs.declared.Answer.{Answer}
 use Rattle.inclusion.specs.declared.Answer.the-variants.{Absent, Found, Refused}
 use Rattle.inclusion.specs.Answers.{Said, saysOf, Answered, startFault, roomFault, cellsFor, told, prefixOf, periodOf, Meets}
 use Rattle.players.specs.Layout.{layout, compareNumbers, unlessShort, Told}
-use Rattle.players.specs.Calls.{compareFault, compared, answerOf, Compared}
+use Rattle.players.specs.Calls.{compared, answerOf, Compared}
 
 short-old : {A : Type 0} (need : ℕ) (answer : List ℕ) (old new : A) → length answer < need → old ≡ unlessShort need answer old new
 short-old need answer old new h = ap (λ (t : Bool). cond t old new) (sym (lt-ltb _ _ h))

@@ -1,14 +1,14 @@
 -- The laws of the cells: what setting a flag and storing an entry do to the flags and the entries. Assumes nothing.
-use mathlib.Core.Path.{_≡_, refl, ap, sym, subst, _∙_}
+use mathlib.Core.Path.{_≡_, refl}
 use mathlib.Core.Logic.{_≢_}
 use mathlib.Core.List.{List, [], _∷_}
 use Prim.Native.Nat.{ℕ, zero, suc, _+_, _*_, _-_, _/_, _%_, _≤_, _<_}
 use native.Mathlib.Omega.{arith}
 use native.Mathlib.Nat.{not-suc-le-zero, le-of-suc-le-suc}
-use native.Mathlib.Decide.{decLt, ℕ-discrete}
+use native.Mathlib.Decide.{ℕ-discrete}
 use lib.ListN.{length, getD, set, length-set, replicate}
-use lib.Seq.{getD-set-same, getD-set-other, set-out}
-use Rattle.search.specs.Cells.{flag, entry, pack, flags, flagged, queued}
+use lib.Seq.{getD-set-same, getD-set-other}
+use Rattle.search.specs.Cells.{flag, entry, flags, flagged, queued}
 
 pub flags-set : (l : List ℕ) (i v : ℕ) → i < length l → flags (set l i v) + getD l i 0 % 2 ≡ flags l + v % 2
 flags-set [] i v h = absurd (not-suc-le-zero h)

@@ -1,20 +1,19 @@
 -- What a search that is started knows, and what follows where one ends or finds a target, over an abstract family. Assumes nothing.
 use mathlib.Core.Path.{_≡_, refl, ap, sym, subst, subst₂, _∙_}
-use mathlib.Core.Logic.{_⊎_, inl, inr, _≢_}
-use mathlib.Core.List.{List, [], _∷_, _++_}
+use mathlib.Core.Logic.{_⊎_, inl, inr}
+use mathlib.Core.List.{List}
 use Prim.Native.Nat.{ℕ, zero, suc, _+_, _*_, _-_, _/_, _%_, _≤_, _<_}
 use native.Mathlib.Omega.{arith}
-use native.Mathlib.Decide.{decLt, ℕ-discrete}
-use native.Mathlib.Nat.{zero-add, add-zero, not-suc-le-zero}
+use native.Mathlib.Decide.{decLt}
+use native.Mathlib.Nat.{add-zero, not-suc-le-zero}
 use lib.Arith.{digits-div, digits-mod}
-use lib.ListN.{length, getD, take, drop, replicate, length-drop}
+use lib.ListN.{length, getD, take, drop}
 use lib.Seq.{getD-take}
-use Rattle.search.specs.Snoc.{Word, ε, _·_, _⊏_, _⊑_, short, front, last, same, less, run, Over, letters, ⊏-trans, ⊑⊏, ⊏⊑, ⊑-trans, grows, ⊑-snoc, ⊑-of-eq, ⊏-irrefl}
-use Rattle.search.specs.Cells.{flag, entry, pack, flags, stateAt, letterAt, parentAt}
-use Rattle.search.specs.Search.{Hit, Entry, Search, Expanded}
+use Rattle.search.specs.Snoc.{Word, ε, _·_, _⊏_, _⊑_, short, same, less, run, Over, letters, ⊑-trans, ⊑-of-eq, ⊏-irrefl}
+use Rattle.search.specs.Cells.{flag, flags, stateAt}
+use Rattle.search.specs.Search.{Hit, Search}
 use Rattle.fdfa.specs.Boolean.{beside}
-use Rattle.fdfa.specs.Family.{Closed}
-use Rattle.search.specs.Paths.{Searchable, Loop, Lasso, First, Path, at-root, at-step, FirstAt}
+use Rattle.search.specs.Paths.{Searchable, Loop, Lasso, Path, at-root, at-step, FirstAt}
 use Rattle.search.proofs.Theory.{Found, hit, ahead, key, first}
 use Rattle.search.proofs.Letters.{letters-over, walk-letters, word, word-over, run-word}
 use Rattle.fdfa.specs.Inclusion.{Counts, Reached}

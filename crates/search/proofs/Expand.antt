@@ -1,19 +1,18 @@
 -- What the loop over the letters of one code keeps, over an abstract step function. Assumes nothing.
-use mathlib.Core.Path.{_≡_, refl, ap, sym, subst, _∙_}
+use mathlib.Core.Path.{_≡_, refl, ap, sym, _∙_}
 use mathlib.Core.List.{List}
-use Prim.Native.Nat.{ℕ, zero, suc, _+_, _*_, _-_, _/_, _%_, _≤_, _<_}
+use Prim.Native.Nat.{ℕ, suc, _+_, _-_, _%_, _≤_, _<_}
 use native.Mathlib.Omega.{arith}
-use native.Mathlib.Decide.{decLt, ℕ-discrete}
-use native.Mathlib.Nat.{mul-le-mul-right, suc-mul, lt-of-lt-of-le}
-use native.Mathlib.Numerals.{add-one, lt-add-one}
+use native.Mathlib.Decide.{ℕ-discrete}
+use native.Mathlib.Numerals.{lt-add-one}
 use borrow.Author.Tests.{eq-eqb, ne-eqb}
 use lib.Dec.{eqb}
 use lib.ListN.{length}
-use Rattle.search.specs.Snoc.{Word, ε, _·_, _⊏_, _⊑_, short, front, last, same, less, run, Over, ⊏-trans, ⊑⊏, ⊏⊑, ⊑-trans, grows, ⊑-snoc, ⊑-of-eq}
-use Rattle.search.specs.Cells.{flag, entry, pack, flags, flagged, queued, Discovered, seen, fresh, CanDiscover, stateAt, pickN}
-use Rattle.search.specs.Search.{Hit, Entry, Search, Expanded}
+use Rattle.search.specs.Snoc.{_⊏_, front, run, ⊏-trans}
+use Rattle.search.specs.Cells.{entry, pack, flagged, queued, Discovered, seen, fresh, CanDiscover, stateAt, pickN}
+use Rattle.search.specs.Search.{Search, Expanded}
 use Rattle.search.proofs.CellLaws.{flags-below, flags-most, entry-flagged, entry-queued-other}
-use Rattle.search.proofs.Steps.{After, step}
+use Rattle.search.proofs.Steps.{step}
 
 pub discovered-up : {cells cells′ : List ℕ} {total total′ x e : ℕ} → Discovered cells total x e cells′ total′ → total ≤ total′
 discovered-up (seen on) = omega arith

@@ -1,8 +1,8 @@
 -- The lassos that a search finds over a family are its accepted and normalized ones. Assumes nothing.
 use mathlib.Core.Path.{_≡_, refl, ap, sym, subst, _∙_}
 use mathlib.Core.Bool.{true}
-use mathlib.Core.List.{List, [], _∷_, _++_}
-use Prim.Native.Nat.{ℕ, zero, suc, _≤_, _<_}
+use mathlib.Core.List.{List, [], _∷_}
+use Prim.Native.Nat.{ℕ, suc, _<_}
 use native.Mathlib.Omega.{arith}
 use lib.ListN.{length}
 use Rattle.fdfa.specs.Words as lists
@@ -12,7 +12,7 @@ use Rattle.fdfa.specs.Inclusion.{Accepted}
 use Rattle.fdfa.proofs.Words.{over-left, over-right}
 use Rattle.fdfa.proofs.Emptiness.{Walks, walks, walked}
 use Rattle.search.specs.Snoc.{Word, ε, _·_, run, Over, size, letters}
-use Rattle.search.specs.Paths.{Lasso, First, FirstAt}
+use Rattle.search.specs.Paths.{Lasso, FirstAt}
 use Rattle.search.proofs.Letters.{letters-over, walk-letters, word, letters-word, length-letters}
 
 over-letters : {s : ℕ} (w : Word) → lists.Over s (letters w) → Over s w

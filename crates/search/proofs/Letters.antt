@@ -2,9 +2,8 @@
 use mathlib.Core.Path.{_≡_, refl, ap, sym, subst, _∙_}
 use mathlib.Core.List.{List, [], _∷_, _++_, append-assoc}
 use mathlib.Core.Logic.{_⊎_, inl, inr}
-use Prim.Native.Nat.{ℕ, zero, suc, _+_, _≤_, _<_}
+use Prim.Native.Nat.{ℕ, suc, _+_, _<_}
 use native.Mathlib.Omega.{arith}
-use native.Mathlib.Numerals.{add-one}
 use lib.ListN.{length, length-append}
 use Rattle.fdfa.specs.Words.{done, below, Lex, differ, agree, Shortlex, shorter, as-long, Before, by-prefix, by-period}
 use Rattle.fdfa.specs.Words as lists

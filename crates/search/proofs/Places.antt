@@ -1,21 +1,20 @@
 -- The steps of the two phases, one lemma for each place of the code, over an abstract family. Assumes nothing.
-use mathlib.Core.Path.{_≡_, refl, ap, sym, subst, _∙_}
-use mathlib.Core.Logic.{_⊎_, inl, inr}
-use mathlib.Core.List.{List, [], _∷_, _++_}
-use Prim.Native.Nat.{ℕ, zero, suc, _+_, _*_, _-_, _/_, _%_, _≤_, _<_}
+use mathlib.Core.Path.{_≡_, ap, sym, subst, _∙_}
+use mathlib.Core.List.{List, _++_}
+use Prim.Native.Nat.{ℕ, _+_, _*_, _-_, _≤_, _<_}
 use native.Mathlib.Omega.{arith}
-use native.Mathlib.Decide.{decLt, ℕ-discrete}
-use native.Mathlib.Nat.{add-zero, mod-lt}
+use native.Mathlib.Decide.{decLt}
+use native.Mathlib.Nat.{add-zero}
 use lib.Arith.{digits-lt}
-use lib.ListN.{length, getD, take, drop, set, replicate, length-set, length-replicate, length-drop}
+use lib.ListN.{length, take, drop, set, replicate, length-set, length-replicate}
 use lib.Seq.{length-take-le}
 use Rattle.search.specs.Snoc.{Word, run}
-use Rattle.search.specs.Cells.{stateAt, zeros, flag, flags}
+use Rattle.search.specs.Cells.{stateAt, zeros}
 use Rattle.search.specs.Search.{Search, Expanded}
 use Rattle.fdfa.specs.Boolean.{beside}
 use Rattle.search.specs.Paths.{Searchable, Loop, Lasso, FirstAt}
 use Rattle.search.proofs.CellLaws.{flags-zeros}
-use Rattle.search.proofs.Expand.{state-read, search-most}
+use Rattle.search.proofs.Expand.{search-most}
 use Rattle.search.proofs.Phases.{Target, Room, Outer, Inner}
 use Rattle.search.proofs.Ends.{init, prog-in, inner-none, inner-from, found, lead-state}
 use Rattle.search.proofs.Work.{root-flags, root-marked, root-lit, zeros-marked, front-take, front-length, mid-is, mid-part, mid-take, mid-drop, mid-length}

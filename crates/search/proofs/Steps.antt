@@ -1,17 +1,17 @@
 -- One letter of a breadth-first search: what `discover` does keeps what is known of the search. Assumes nothing.
 use mathlib.Core.Path.{_≡_, refl, ap, sym, subst, _∙_}
 use mathlib.Core.List.{List}
-use mathlib.Core.Logic.{_⊎_, inl, inr, _≢_}
-use Prim.Native.Nat.{ℕ, zero, suc, _+_, _*_, _-_, _/_, _%_, _≤_, _<_}
+use mathlib.Core.Logic.{_⊎_, inl, inr}
+use Prim.Native.Nat.{ℕ, suc, _+_, _*_, _-_, _≤_, _<_}
 use native.Mathlib.Omega.{arith}
 use native.Mathlib.Decide.{decLt, ℕ-discrete}
-use native.Mathlib.Numerals.{add-one, lt-add-one}
+use native.Mathlib.Numerals.{lt-add-one}
 use lib.Dec.{ltb}
 use mathlib.Core.Bool.{Bool, true, false}
 use borrow.Author.Tests.{lt-ltb, le-ltb}
 use lib.ListN.{length}
-use Rattle.search.specs.Snoc.{Word, ε, _·_, _⊏_, _⊑_, short, front, last, same, less, run, Over, ⊏-trans, ⊑⊏, ⊏⊑, ⊑-trans, grows, ⊑-snoc, ⊑-of-eq}
-use Rattle.search.specs.Cells.{flag, entry, pack, flags, flagged, queued, Discovered, seen, fresh}
+use Rattle.search.specs.Snoc.{Word, _·_, _⊏_, _⊑_, last, less, run, Over, ⊏-trans, ⊑-of-eq}
+use Rattle.search.specs.Cells.{flag, entry, pack, flagged, queued, Discovered, seen, fresh}
 use Rattle.search.specs.Search.{Hit, Entry, Search}
 use Rattle.search.proofs.CellLaws.{flags-below, length-flagged, length-queued, flag-flagged-other, flag-flagged-same, entry-flagged, flags-flagged, flag-queued, flags-queued, entry-queued-same, entry-queued-other}
 

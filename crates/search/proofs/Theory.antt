@@ -1,14 +1,10 @@
 -- The theory of a breadth-first search over an abstract step function. Assumes nothing.
-use mathlib.Core.Path.{_≡_, refl, ap, sym, subst, _∙_}
-use mathlib.Core.List.{List}
-use mathlib.Core.Logic.{_⊎_, inl, inr}
-use Prim.Native.Nat.{ℕ, zero, suc, _+_, _*_, _-_, _≤_, _<_}
+use mathlib.Core.Path.{_≡_, ap, sym, subst, _∙_}
+use Prim.Native.Nat.{ℕ, _-_, _≤_, _<_}
 use native.Mathlib.Omega.{arith}
 use native.Mathlib.Decide.{decLt}
-use lib.ListN.{length}
-use Rattle.search.specs.Snoc.{Word, ε, _·_, _⊏_, _⊑_, short, front, last, same, less, run, Over, ⊏-trans, ⊑⊏, ⊏⊑, ⊑-trans, grows, ⊑-snoc, ⊑-of-eq}
-use Rattle.search.specs.Cells.{flag, entry, pack, flags}
-use Rattle.search.specs.Search.{Hit, Entry, Search}
+use Rattle.search.specs.Snoc.{Word, ε, _·_, _⊏_, _⊑_, less, run, Over, ⊏-trans, ⊑⊏, ⊑-trans, grows, ⊑-snoc, ⊑-of-eq}
+use Rattle.search.specs.Search.{Hit}
 
 -- a word's state is reached by no later word, or some code that is not expanded is earlier
 pub data Found (f : ℕ → ℕ → ℕ) (root lo total head : ℕ) (W : ℕ → Word) (w : Word) : Type 0 where

@@ -1,14 +1,12 @@
 -- The cells of the two phases within one slice: parts that are lent and come back. Assumes nothing.
-use mathlib.Core.Path.{_≡_, refl, ap, sym, subst, _∙_}
-use mathlib.Core.Logic.{_≢_}
-use mathlib.Core.List.{List, [], _∷_, _++_, append-nil}
-use Prim.Native.Nat.{ℕ, zero, suc, _+_, _*_, _-_, _/_, _%_, _≤_, _<_}
+use mathlib.Core.Path.{_≡_, refl, ap, _∙_}
+use mathlib.Core.List.{List, _++_}
+use Prim.Native.Nat.{ℕ, zero, suc, _+_, _-_, _≤_}
 use native.Mathlib.Omega.{arith}
 use native.Mathlib.Decide.{ℕ-discrete}
-use native.Mathlib.Nat.{le-of-suc-le-suc, not-suc-le-zero, sub-self}
-use lib.ListN.{length, getD, set, take, drop, replicate, length-drop, length-append, length-replicate, length-set, drop-of-length-le}
-use lib.Seq.{take-all, take-at, drop-at, length-take-le, take-set-lt, getD-set-same, getD-set-other}
-use Rattle.search.specs.Cells.{flag, flags, stateAt, zeros}
+use lib.ListN.{length, getD, set, take, drop, length-drop, length-append, length-replicate}
+use lib.Seq.{take-all, take-at, drop-at, length-take-le, getD-set-same, getD-set-other}
+use Rattle.search.specs.Cells.{flag, flags, zeros}
 use Rattle.search.proofs.CellLaws.{flags-set, flags-zeros}
 
 pub zeros-getD : (m x : ℕ) → _≡_ {A = ℕ} (getD (zeros m) x 0) 0

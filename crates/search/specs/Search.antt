@@ -1,12 +1,9 @@
 -- A breadth-first search over an abstract step function, and what it has found at each point. Assumes nothing.
-use mathlib.Core.Path.{_≡_, refl, ap, sym, subst, _∙_}
+use mathlib.Core.Path.{_≡_}
 use mathlib.Core.List.{List}
-use mathlib.Core.Logic.{_⊎_, inl, inr}
-use Prim.Native.Nat.{ℕ, zero, suc, _+_, _*_, _-_, _≤_, _<_}
-use native.Mathlib.Omega.{arith}
-use native.Mathlib.Decide.{decLt}
+use Prim.Native.Nat.{ℕ, suc, _+_, _*_, _≤_, _<_}
 use lib.ListN.{length}
-use Rattle.search.specs.Snoc.{Word, ε, _·_, _⊏_, _⊑_, short, front, last, same, less, run, Over, ⊏-trans, ⊑⊏, ⊏⊑, ⊑-trans, grows, ⊑-snoc, ⊑-of-eq}
+use Rattle.search.specs.Snoc.{Word, ε, _·_, _⊏_, _⊑_, run, Over}
 use Rattle.search.specs.Cells.{flag, entry, pack, flags, stateAt}
 
 -- some code from lo on reaches x by a word that is no later than w

@@ -1,6 +1,6 @@
 // A breadth-first search that keeps its queue in cells: visiting a state, and reading a state or its first word back.
 ghost use mathlib.Core.Path.{_≡_};
-ghost use Prim.Native.Nat.{ℕ, _≤_, _<_};
+ghost use Prim.Native.Nat.{_≤_, _<_};
 ghost use lib.ListN.{length, replicate};
 ghost use Rattle.search.specs.Cells.{pack, stateAt, CanDiscover, Discovered};
 ghost use Rattle.search.specs.Paths.{Readable, Deep, Filled};

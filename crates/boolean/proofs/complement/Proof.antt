@@ -1,10 +1,9 @@
 -- `boolean::complement` meets its contract. Assumes nothing.
 use mathlib.Core.Path.{_≡_, ap, sym, _∙_}
 use mathlib.Core.List.{List}
-use Prim.Native.Nat.{ℕ, _+_, _≤_}
-use native.Mathlib.Omega.{arith}
+use Prim.Native.Nat.{ℕ}
 use denote.Ref.{now}
-use lib.ListN.{length, length-append}
+use lib.ListN.{length}
 use borrow.Author.Tests.{lt-ltb, le-ltb}
 use Rattle.fdfa.specs.declared.Part.the-variants.{First, Out}
 use Rattle.fdfa.specs.declared.Refusal.{Refusal}
@@ -18,7 +17,6 @@ use Rattle.packed.specs.Faults as faults
 use Rattle.packed.proofs.Soundness.{sound-valid}
 use Rattle.boolean.specs.Operations.{tooShort, complementBytes, complementFault, saysOf}
 use Rattle.boolean.proofs.Turning.{complement-length}
-use borrow.Author.Needs.{needs}
 use borrow.Author.Needs.{needs}
 use Rattle.boolean.proofs.complement.Statement.{statement}
 use Rattle.boolean.proofs.complement.Tie as tie

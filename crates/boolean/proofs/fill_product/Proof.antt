@@ -13,7 +13,6 @@ use Rattle.fdfa.proofs.Refusals.{when-fails, when-passes, refuses, gives}
 use Rattle.boolean.specs.Operations.{productBytes, productAt, tooShort, saysOf}
 use Rattle.boolean.proofs.Extent.{product-length}
 use borrow.Author.Needs.{needs}
-use borrow.Author.Needs.{needs}
 use Rattle.boolean.proofs.fill_product.Statement.{statement}
 use Rattle.boolean.proofs.fill_product.Tie as tie
 

@@ -1,26 +1,24 @@
 -- `boolean::product` meets its contract: both sheets, then N and K, then the result. Assumes nothing.
-use mathlib.Core.Path.{_≡_, refl, ap, sym, _∙_}
+use mathlib.Core.Path.{_≡_, ap, sym, _∙_}
 use mathlib.Core.List.{List}
-use Prim.Native.Nat.{ℕ, _*_, _≤_, _<_}
+use Prim.Native.Nat.{ℕ, _*_, _≤_}
 use native.Mathlib.Omega.{arith}
-use native.Mathlib.Nat.{mul-le-mul}
 use denote.Ref.{now}
 use lib.Dec.{ltb}
 use lib.ListN.{length}
 use borrow.Author.Tests.{lt-ltb, le-ltb}
 use Rattle.fdfa.specs.declared.Part.the-variants.{Out}
 use Rattle.fdfa.specs.Inclusion.{widest}
-use Rattle.fdfa.specs.Refusals.{Fault, sound, fault, _then_, when, given, refused, unless}
+use Rattle.fdfa.specs.Refusals.{Fault, sound, _then_, when, given, refused, unless}
 use Rattle.fdfa.specs.Slices.{filled}
-use Rattle.fdfa.proofs.Largest.{largest-le, largest-most}
+use Rattle.fdfa.proofs.Largest.{largest-most}
 use Rattle.fdfa.proofs.Refusals.{when-fails, when-passes, passed, failed, refuses, was-given, was-refused}
-use Rattle.packed.specs.declared.Sizes.{Sizes}
-use Rattle.packed.specs.Layout.{letterCount, stateCount, sizeOf, decode, Valid}
+use Rattle.packed.specs.Layout.{letterCount, stateCount, decode, Valid}
 use Rattle.packed.specs.Faults.{sizesOf, pairFault, BothSizes, pairSays}
 use Rattle.packed.proofs.Bounds.{few-both}
 use Rattle.packed.proofs.Soundness.{pair-valid}
-use Rattle.boolean.specs.Operations.{productBytes, tooShort, productFault, saysOf, Pair}
-use borrow.Author.Needs.{needs}
+use Rattle.boolean.specs.Operations.{productBytes, tooShort, productFault, saysOf}
+use Rattle.boolean.proofs.Verdicts.{sizes-few}
 use borrow.Author.Needs.{needs}
 use Rattle.boolean.proofs.product.Statement.{statement}
 use Rattle.boolean.proofs.product.Tie as tie
@@ -84,10 +82,6 @@ to-room : (c : tie.Else2) → let d = c .before .before .before .before .before 
 to-room c =
     let d = c .before .before .before .before .before .before .before in
     to-progress (c .before .before .before) ∙ passed (room (d .before .before)) (when-passes 20 Out _ (le-ltb 32 (widest (decode (first (d .before .before))) * widest (decode (second (d .before .before)))) (omega (arith, k-is d, c .if2 .left))))
-
-sizes-few : (b c : List ℕ) → widest (decode b) * widest (decode c) ≤ 32 → (p q : ℕ) → p < stateCount b → q < stateCount c → sizeOf b p * sizeOf c q ≤ 32
-sizes-few b c h p q hp hq =
-    omega (arith, mul-le-mul (largest-le (stateCount b) (sizeOf b) p hp) (largest-le (stateCount c) (sizeOf c) q hq))
 
 check-pair-requires : tie.Need-check-pair-requires
 check-pair-requires c κs = search needs

@@ -1,10 +1,9 @@
 -- `boolean::product_length` meets its contract. Assumes nothing.
-use mathlib.Core.Path.{_≡_, refl, ap, sym, _∙_}
-use Prim.Native.Nat.{ℕ, _+_, _*_, _-_, _/_, _%_, _≤_, _<_}
+use mathlib.Core.Path.{_≡_, ap, _∙_}
+use Prim.Native.Nat.{_+_, _*_, _-_, _/_, _%_, _≤_}
 use native.Mathlib.Omega.{arith}
 use denote.Ref.{now}
-use lib.ListN.{length}
-use Rattle.packed.specs.Layout.{letterCount, stateCount, sizeOf}
+use Rattle.packed.specs.Layout.{stateCount, sizeOf}
 use Rattle.packed.proofs.Bounds.{few-both, part-few}
 use Rattle.boolean.specs.Operations.{pairSize, productAt, SizeReads}
 use Rattle.boolean.proofs.Pairing.{sizes-read}

@@ -1,5 +1,5 @@
 -- `boolean::turn_marks` meets its contract. Assumes nothing.
-use Prim.Native.Nat.{ℕ, _-_}
+use Prim.Native.Nat.{_-_}
 use native.Mathlib.Omega.{arith}
 use lib.ListN.{length}
 use Rattle.packed.proofs.Filling.{Filling, filling-none, filling-more, filling-all}

@@ -6,12 +6,11 @@ use native.Mathlib.Omega.{arith}
 use denote.Ref.{now}
 use lib.ListN.{length, take, drop, length-drop}
 use lib.Seq.{length-take-le, take-all}
-use Rattle.fdfa.proofs.Slices.{Begun, begun-first, begun-more, lent-length}
+use Rattle.fdfa.proofs.Slices.{Begun, begun-first, begun-more}
 use Rattle.fdfa.specs.Slices.{written}
 use Rattle.packed.specs.Tables.{tab}
 use Rattle.packed.proofs.Tabulated.{length-tab}
 use Rattle.boolean.specs.Operations.{turnedMark}
-use borrow.Author.Needs.{needs}
 use borrow.Author.Needs.{needs}
 use Rattle.boolean.proofs.turn_part.Statement.{statement}
 use Rattle.boolean.proofs.turn_part.Tie as tie

@@ -1,23 +1,20 @@
 -- `boolean::write_complement` meets its contract: what stands before the parts, then part after part. Assumes nothing.
 use mathlib.Core.Path.{_≡_, refl, ap, sym, _∙_}
-use mathlib.Core.List.{List, [], _++_, append-nil, append-assoc}
+use mathlib.Core.List.{List, _++_}
 use Prim.Native.Nat.{ℕ, _+_, _*_, _-_, _≤_, _<_}
 use native.Mathlib.Omega.{arith}
 use native.Mathlib.Nat.{add-assoc}
 use denote.Ref.{now}
 use lib.ListN.{length, take, drop, length-append, length-drop}
 use lib.Seq.{length-take-le}
-use Rattle.fdfa.specs.Family.{Fdfa}
 use Rattle.fdfa.specs.Boolean.{complement}
 use Rattle.fdfa.specs.Slices.{written}
 use Rattle.fdfa.proofs.Slices.{Begun, begun-first, begun-as, begun-more, lent-length, written-again}
-use Rattle.packed.specs.Tables.{rows, sum}
-use Rattle.packed.specs.Layout.{letterCount, stateCount, sizeOf, progressAt, decode, frontBytes, partBytes, pack, Valid}
+use Rattle.packed.specs.Tables.{rows}
+use Rattle.packed.specs.Layout.{stateCount, progressAt, decode, frontBytes, partBytes}
 use Rattle.packed.proofs.Bounds.{few-both, progress-first, progress-next, progress-upto, Body, body}
-use Rattle.packed.proofs.Filling.{rows-next}
 use Rattle.packed.proofs.Packing.{front-of, length-front, length-part}
-use Rattle.packed.proofs.Tabulated.{length-rows}
-use Rattle.boolean.specs.Operations.{turnedPart, complementBytes}
+use Rattle.boolean.specs.Operations.{complementBytes}
 use Rattle.boolean.proofs.Turning.{turned-part, done, done-length, done-next, done-first, begun-again}
 use borrow.Author.Needs.{needs}
 use Rattle.boolean.proofs.write_complement.Statement.{statement}

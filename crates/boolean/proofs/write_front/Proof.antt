@@ -1,18 +1,17 @@
 -- `boolean::write_front` meets its contract: two counts, the sizes, the leading table. Assumes nothing.
-use mathlib.Core.Path.{_≡_, refl, ap, sym, _∙_}
+use mathlib.Core.Path.{_≡_, refl, ap, _∙_}
 use mathlib.Core.List.{List, [], _∷_, _++_}
-use Prim.Native.Nat.{ℕ, _+_, _*_, _-_, _≤_, _<_}
+use Prim.Native.Nat.{ℕ, _+_, _*_, _-_, _≤_}
 use native.Mathlib.Omega.{arith}
 use denote.Ref.{now}
 use lib.ListN.{length, take, drop, set, length-set, length-append}
 use Rattle.fdfa.specs.Slices.{written}
-use Rattle.fdfa.proofs.Slices.{Begun, begun-none, begun-as, begun-cell, begun-more, lent-length}
+use Rattle.fdfa.proofs.Slices.{Begun, begun-none, begun-cell, begun-more, lent-length}
 use Rattle.packed.specs.Tables.{tab}
-use Rattle.packed.specs.Layout.{letterCount, stateCount, table}
+use Rattle.packed.specs.Layout.{table}
 use Rattle.packed.proofs.Tabulated.{length-tab, length-table}
 use Rattle.boolean.specs.Operations.{pairNext, pairSize}
 use Rattle.boolean.proofs.Pairing.{sizes-read, lead-read, front-is}
-use borrow.Author.Needs.{needs}
 use borrow.Author.Needs.{needs}
 use Rattle.boolean.proofs.write_front.Statement.{statement}
 use Rattle.boolean.proofs.write_front.Tie as tie

@@ -1,13 +1,11 @@
 -- `boolean::write_pair` meets its contract. Assumes nothing.
-use mathlib.Core.Path.{_≡_, refl, ap, sym, _∙_}
+use mathlib.Core.Path.{ap, _∙_}
 use mathlib.Core.List.{List}
-use Prim.Native.Nat.{ℕ, _+_, _*_, _≤_, _<_}
+use Prim.Native.Nat.{ℕ}
 use native.Mathlib.Omega.{arith}
 use denote.Ref.{now}
-use lib.ListN.{length}
 use Rattle.fdfa.specs.Slices.{written}
 use Rattle.boolean.proofs.Pairing.{Sides, sides}
-use borrow.Author.Needs.{needs}
 use borrow.Author.Needs.{needs}
 use Rattle.boolean.proofs.write_pair.Statement.{statement}
 use Rattle.boolean.proofs.write_pair.Tie as tie

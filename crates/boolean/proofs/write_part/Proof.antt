@@ -1,15 +1,11 @@
 -- `boolean::write_part` meets its contract: the table, then the marks. Assumes nothing.
-use mathlib.Core.Path.{_≡_}
-use Prim.Native.Nat.{ℕ, _*_, _≤_}
 use native.Mathlib.Omega.{arith}
 use denote.Ref.{now}
-use lib.ListN.{length}
 use Rattle.fdfa.proofs.Slices.{Begun, begun-first, begun-more}
 use Rattle.packed.specs.Tables.{tab}
 use Rattle.packed.specs.Layout.{table}
 use Rattle.packed.proofs.Tabulated.{length-tab, length-table}
 use Rattle.boolean.specs.Operations.{pairNext, pairMark}
-use borrow.Author.Needs.{needs}
 use borrow.Author.Needs.{needs}
 use Rattle.boolean.proofs.write_part.Statement.{statement}
 use Rattle.boolean.proofs.write_part.Tie as tie

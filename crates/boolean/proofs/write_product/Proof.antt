@@ -1,16 +1,14 @@
 -- `boolean::write_product` meets its contract: the counts and the leading table, then the parts. Assumes nothing.
-use mathlib.Core.Path.{_≡_, refl, ap, sym, _∙_}
-use mathlib.Core.List.{List}
-use Prim.Native.Nat.{ℕ, _+_, _*_, _-_, _≤_, _<_}
+use mathlib.Core.Path.{_≡_, sym, _∙_}
+use Prim.Native.Nat.{_+_, _*_, _-_, _≤_}
 use native.Mathlib.Omega.{arith}
 use denote.Ref.{now}
 use lib.ListN.{length, length-append}
 use Rattle.fdfa.proofs.Slices.{Begun, begun-first, begun-more, lent-length}
-use Rattle.packed.specs.Layout.{letterCount, stateCount, decode}
+use Rattle.packed.specs.Layout.{decode}
 use Rattle.packed.proofs.Bounds.{few-both}
-use Rattle.boolean.specs.Operations.{opOf, productFront, productParts, productBytes, productAt}
+use Rattle.boolean.specs.Operations.{opOf, productFront, productParts}
 use Rattle.boolean.proofs.Extent.{product-first, front-length}
-use borrow.Author.Needs.{needs}
 use borrow.Author.Needs.{needs}
 use Rattle.boolean.proofs.write_product.Statement.{statement}
 use Rattle.boolean.proofs.write_product.Tie as tie

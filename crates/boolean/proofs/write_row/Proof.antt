@@ -1,13 +1,10 @@
 -- `boolean::write_row` meets its contract. Assumes nothing.
-use mathlib.Core.Path.{_≡_, refl, ap, ap₂, sym, _∙_}
-use Prim.Native.Nat.{ℕ, _+_, _*_, _-_, _/_, _%_, _≤_, _<_}
+use mathlib.Core.Path.{_≡_, ap, ap₂, _∙_}
+use Prim.Native.Nat.{ℕ, _+_, _*_, _-_, _<_}
 use native.Mathlib.Omega.{arith}
-use native.Mathlib.Nat.{le-add-right}
 use denote.Ref.{now}
-use lib.ListN.{length}
-use Rattle.packed.specs.Layout.{tableStep}
 use Rattle.packed.proofs.Filling.{Filling, filling-none, filling-more, filling-all}
-use Rattle.boolean.specs.Operations.{pairNext, RowReads}
+use Rattle.boolean.specs.Operations.{pairNext}
 use borrow.Author.Needs.{needs}
 use Rattle.boolean.proofs.write_row.Statement.{statement}
 use Rattle.boolean.proofs.write_row.Tie as tie

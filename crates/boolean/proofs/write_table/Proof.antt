@@ -1,5 +1,5 @@
 -- `boolean::write_table` meets its contract: row after row. Assumes nothing.
-use mathlib.Core.Path.{_≡_, refl, ap, sym, _∙_}
+use mathlib.Core.Path.{_≡_, ap, sym, _∙_}
 use mathlib.Core.List.{List}
 use Prim.Native.Nat.{ℕ, _+_, _*_, _-_, _≤_, _<_}
 use native.Mathlib.Omega.{arith}
@@ -8,7 +8,7 @@ use denote.Ref.{now}
 use lib.ListN.{length}
 use Rattle.fdfa.specs.Slices.{written}
 use Rattle.fdfa.proofs.Slices.{Begun, begun-as, lent-length, begun-more}
-use Rattle.packed.specs.Tables.{tab, rows}
+use Rattle.packed.specs.Tables.{tab}
 use Rattle.packed.specs.Layout.{table}
 use Rattle.packed.proofs.Tabulated.{length-tab, length-table}
 use Rattle.packed.proofs.Filling.{rows-begin, rows-next}

@@ -2,7 +2,6 @@
 use denote.Ref.{now}
 use Rattle.cursor.proofs.Stepping.{past-end, goes-on, turns-over}
 use borrow.Author.Needs.{needs}
-use borrow.Author.Needs.{needs}
 use Rattle.cursor.proofs.pass.Statement.{statement}
 use Rattle.cursor.proofs.pass.Tie as tie
 

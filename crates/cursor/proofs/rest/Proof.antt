@@ -3,7 +3,6 @@ use denote.Ref.{now, ptr}
 use Rattle.cursor.specs.declared.Playing.the-variants.{Prefix, Period}
 use Rattle.cursor.proofs.Stepping.{is-prefix, is-period, rest-no-period, rest-past, rest-within}
 use borrow.Author.Needs.{needs}
-use borrow.Author.Needs.{needs}
 use Rattle.cursor.proofs.rest.Statement.{statement}
 use Rattle.cursor.proofs.rest.Tie as tie
 

@@ -11,7 +11,7 @@ use lib.Seq.{length-take-le}
 use borrow.Author.Tests.{lt-ltb, le-ltb}
 use Rattle.fdfa.specs.declared.Part.the-variants.{Work}
 use Rattle.fdfa.specs.Inclusion.{widest, comparison}
-use Rattle.fdfa.specs.Refusals.{Fault, sound, fault, when}
+use Rattle.fdfa.specs.Refusals.{sound, fault, when}
 use Rattle.fdfa.proofs.Refusals.{when-fails, when-passes, passed, failed, was-given, was-refused}
 use Rattle.packed.specs.Layout.{letterCount, stateCount, decode, Valid}
 use Rattle.packed.specs.Faults.{sizesOf, pairFault, BothSizes, pairSays}
@@ -21,7 +21,6 @@ use Rattle.inclusion.specs.Answers.{cellsFor, startFault, Meets}
 use Rattle.inclusion.proofs.Twins.{twin-of, few-widest}
 use Rattle.inclusion.proofs.Answering.{answered-refused, answered-decided, decided-shows}
 use Rattle.inclusion.proofs.Comparing.{meets, first-complete, second-complete, twin-witness, twin-reached}
-use borrow.Author.Needs.{needs}
 use borrow.Author.Needs.{needs}
 use Rattle.inclusion.proofs.compare.Statement.{statement}
 use Rattle.inclusion.proofs.compare.Tie as tie

@@ -1,7 +1,7 @@
 -- `inclusion::decide` meets its contract. Assumes nothing.
-use mathlib.Core.Path.{_≡_, ap, sym, subst, _∙_}
+use mathlib.Core.Path.{_≡_, ap, subst, _∙_}
 use mathlib.Core.List.{List}
-use Prim.Native.Nat.{ℕ, _+_, _*_, _-_, _≤_, _<_}
+use Prim.Native.Nat.{ℕ, _-_, _≤_}
 use native.Mathlib.Omega.{arith}
 use denote.Ref.{now}
 use lib.ListN.{length, replicate}
@@ -11,7 +11,6 @@ use Rattle.inclusion.specs.Search.{Right}
 use Rattle.inclusion.specs.declared.Outcome.the-variants.{Contained, Missing}
 use Rattle.inclusion.proofs.Twins.{few-pairs}
 use Rattle.inclusion.proofs.Telling.{can-tell, decided-none, decided-first}
-use borrow.Author.Needs.{needs}
 use borrow.Author.Needs.{needs}
 use Rattle.inclusion.proofs.decide.Statement.{statement}
 use Rattle.inclusion.proofs.decide.Tie as tie

@@ -1,14 +1,12 @@
 -- `inclusion::decide_empty` meets its contract. Assumes nothing.
-use mathlib.Core.Path.{_≡_, refl, ap, sym, subst, _∙_}
-use mathlib.Core.List.{List, _∷_}
-use Prim.Native.Nat.{ℕ, _+_, _*_, _≤_, _<_}
+use mathlib.Core.Path.{_≡_, ap, sym, _∙_}
+use mathlib.Core.List.{_∷_}
+use Prim.Native.Nat.{_+_, _*_, _≤_}
 use native.Mathlib.Omega.{arith}
-use denote.Ref.{now}
 use lib.ListN.{length, take, replicate}
 use Rattle.inclusion.specs.Tables.{nothingBytes}
 use Rattle.inclusion.proofs.Telling.{decided-as}
 use Rattle.inclusion.proofs.Nothing.{nothing-built, nothing-length, empty-twin, empty-room, beside-nothing}
-use borrow.Author.Needs.{needs}
 use borrow.Author.Needs.{needs}
 use Rattle.inclusion.proofs.decide_empty.Statement.{statement}
 use Rattle.inclusion.proofs.decide_empty.Tie as tie

@@ -10,10 +10,10 @@ use lib.Seq.{length-take-le}
 use borrow.Author.Tests.{lt-ltb, le-ltb}
 use Rattle.fdfa.specs.declared.Part.the-variants.{First, Work}
 use Rattle.fdfa.specs.Inclusion.{emptiness}
-use Rattle.fdfa.specs.Refusals.{Fault, sound, fault, when}
+use Rattle.fdfa.specs.Refusals.{sound, fault, when}
 use Rattle.fdfa.proofs.Refusals.{when-fails, when-passes, passed, failed, was-given, was-refused}
 use Rattle.packed.specs.declared.Sizes.{Sizes}
-use Rattle.packed.specs.Layout.{stateCount, decode, Valid}
+use Rattle.packed.specs.Layout.{decode, Valid}
 use Rattle.packed.specs.Faults.{sizesOf, sheetFault, saysOf}
 use Rattle.packed.proofs.Bounds.{few-both}
 use Rattle.packed.proofs.Soundness.{sound-valid, valid-packable}
@@ -21,7 +21,6 @@ use Rattle.inclusion.specs.Answers.{emptyCells, emptyStart, MeetsEmpty}
 use Rattle.inclusion.proofs.Twins.{few-widest}
 use Rattle.inclusion.proofs.Answering.{answered-refused, answered-decided, decided-shows}
 use Rattle.inclusion.proofs.Nothing.{empty-witness, empty-reached, meets-empty}
-use borrow.Author.Needs.{needs}
 use borrow.Author.Needs.{needs}
 use Rattle.inclusion.proofs.emptiness.Statement.{statement}
 use Rattle.inclusion.proofs.emptiness.Tie as tie

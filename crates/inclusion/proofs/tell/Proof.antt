@@ -1,12 +1,9 @@
 -- `inclusion::tell` meets its contract. Assumes nothing.
-use mathlib.Core.Path.{_≡_, sym}
-use Prim.Native.Nat.{ℕ, _+_, _*_, _-_, _≤_, _<_}
+use mathlib.Core.Path.{sym}
+use Prim.Native.Nat.{_-_}
 use native.Mathlib.Omega.{arith}
-use denote.Ref.{now}
-use lib.ListN.{length}
 use lib.Seq.{length-take-le}
 use Rattle.inclusion.proofs.Telling.{tells-opening, tells-period, tells-all}
-use borrow.Author.Needs.{needs}
 use borrow.Author.Needs.{needs}
 use Rattle.inclusion.proofs.tell.Statement.{statement}
 use Rattle.inclusion.proofs.tell.Tie as tie

@@ -1,22 +1,20 @@
 -- `membership::check` meets its contract: the sheet, then the prefix, then the period. Assumes nothing.
-use mathlib.Core.Path.{_≡_, refl, ap, sym, _∙_}
+use mathlib.Core.Path.{_≡_, ap, sym, _∙_}
 use mathlib.Core.List.{List}
-use Prim.Native.Nat.{ℕ, _+_, _≤_, _<_}
+use Prim.Native.Nat.{ℕ, _+_}
 use native.Mathlib.Omega.{arith}
 use denote.Ref.{now}
 use lib.Dec.{eqb}
 use lib.ListN.{length}
 use borrow.Author.Tests.{eq-eqb, ne-eqb}
 use Rattle.fdfa.specs.declared.Part.the-variants.{First, Opening, Loop}
-use Rattle.fdfa.specs.declared.Refusal.{Refusal}
-use Rattle.fdfa.specs.Refusals.{Fault, sound, fault, _then_, when, given, refused}
+use Rattle.fdfa.specs.Refusals.{Fault, sound, _then_, when, given, refused}
 use Rattle.fdfa.proofs.Refusals.{when-fails, when-passes, passed, failed, refuses, gives, was-given, was-refused}
 use Rattle.packed.specs.declared.Sizes.{Sizes}
 use Rattle.packed.specs.Layout.{letterCount}
 use Rattle.packed.specs.Faults.{firstOutside, scan, sheetFault, sizesOf, saysOf}
 use Rattle.packed.proofs.Scan.{scan-fails, scan-passes}
 use Rattle.membership.specs.Verdict.{lassoFault, checkSays}
-use borrow.Author.Needs.{needs}
 use borrow.Author.Needs.{needs}
 use Rattle.membership.proofs.check.Statement.{statement}
 use Rattle.membership.proofs.check.Tie as tie

@@ -1,19 +1,19 @@
 -- `membership::normalize` meets its contract: the states so far are noted, and the first that comes again ends it. Assumes nothing.
-use mathlib.Core.Path.{_≡_, refl, ap, sym, subst, _∙_}
+use mathlib.Core.Path.{_≡_, ap, sym, subst, _∙_}
 use mathlib.Core.List.{List}
 use Prim.Native.Nat.{ℕ, _+_, _*_, _-_, _≤_, _<_}
 use native.Mathlib.Omega.{arith}
 use denote.Ref.{now}
 use lib.ListN.{getD, set}
-use Rattle.fdfa.specs.Words.{Over, turns}
+use Rattle.fdfa.specs.Words.{Over}
 use Rattle.fdfa.specs.Family.{walk}
 use Rattle.fdfa.specs.Normalization.{returnFrom, returning}
 use Rattle.fdfa.proofs.Words.{over-turns, walk-closed, walk-turn}
 use Rattle.fdfa.proofs.Normal.{turns-follow}
 use Rattle.packed.specs.Layout.{letterCount, stateCount, leadingAt, tableStep}
-use Rattle.packed.specs.Columns.{columnStep, Columns, Walkable}
+use Rattle.packed.specs.Columns.{columnStep, Walkable}
 use Rattle.packed.proofs.Reading.{lead-fits, lead-walks}
-use Rattle.membership.specs.Verdict.{Closing, turning}
+use Rattle.membership.specs.Verdict.{turning}
 use Rattle.membership.proofs.Seen.{Seen, seen-none, room, seen-more, seen-returns}
 use borrow.Author.Needs.{needs}
 use Rattle.membership.proofs.normalize.Statement.{statement}

@@ -6,10 +6,10 @@ use native.Mathlib.Omega.{arith}
 use denote.Ref.{now}
 use lib.Dec.{eqb}
 use lib.ListN.{getD}
-use Rattle.fdfa.specs.Words.{Over, turns}
+use Rattle.fdfa.specs.Words.{turns}
 use Rattle.fdfa.specs.Family.{walk}
 use Rattle.fdfa.proofs.Words.{over-turns, walk-closed, walk-turn}
-use Rattle.packed.specs.Layout.{letterCount, stateCount, sizeOf, progressAt, marksAt, tableStep, decode, Valid}
+use Rattle.packed.specs.Layout.{letterCount, sizeOf, progressAt, marksAt, decode}
 use Rattle.packed.proofs.Bounds.{Body}
 use Rattle.packed.specs.Columns.{columnStep, Walkable}
 use Rattle.packed.proofs.Reading.{part-of, progress-walks}

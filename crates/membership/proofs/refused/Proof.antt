@@ -1,7 +1,6 @@
 -- `membership::refused` meets its contract. Assumes nothing.
 use native.Mathlib.Omega.{arith}
 use borrow.Author.Needs.{needs}
-use borrow.Author.Needs.{needs}
 use Rattle.membership.proofs.refused.Statement.{statement}
 use Rattle.membership.proofs.refused.Tie as tie
 

@@ -1,19 +1,18 @@
 -- `membership::verdict` meets its contract. Assumes nothing.
-use mathlib.Core.Path.{_≡_, refl, ap, sym, subst, _∙_}
+use mathlib.Core.Path.{_≡_, refl, ap, sym, _∙_}
 use mathlib.Core.List.{List}
-use Prim.Native.Nat.{ℕ, _+_, _≤_, _<_}
+use Prim.Native.Nat.{ℕ, _+_, _<_}
 use native.Mathlib.Omega.{arith}
 use denote.Enum.Declared
 use denote.Ref.{now}
 use Rattle.fdfa.specs.declared.Refusal.{Refusal}
-use Rattle.fdfa.specs.Words.{turns}
-use Rattle.fdfa.specs.Family.{walk, Lasso}
+use Rattle.fdfa.specs.Family.{Lasso}
 use Rattle.fdfa.specs.Acceptance.{verdict}
-use Rattle.fdfa.specs.Refusals.{sound, Result, given, refused, unless}
+use Rattle.fdfa.specs.Refusals.{sound, given, refused, unless}
 use Rattle.fdfa.proofs.Refusals.{refuses, gives, was-given, was-refused}
 use Rattle.fdfa.proofs.Words.{walk-closed, over-turns}
 use Rattle.packed.specs.declared.Sizes.{Sizes}
-use Rattle.packed.specs.Layout.{letterCount, stateCount, leadingAt, tableStep, decode, Valid}
+use Rattle.packed.specs.Layout.{letterCount, stateCount, leadingAt, decode, Valid}
 use Rattle.packed.specs.Faults.{sizesOf}
 use Rattle.membership.specs.declared.Checked.{Checked}
 use Rattle.membership.specs.declared.Checked.the-variants as checked
@@ -22,7 +21,6 @@ use Rattle.membership.specs.declared.Judgement.the-variants as judgement
 use Rattle.membership.specs.Verdict.{lassoFault, judged, saysOf, checkSays, turning}
 use Rattle.membership.proofs.Checked as checked-type
 use Rattle.membership.proofs.Judging.{lasso-valid, verdict-found}
-use borrow.Author.Needs.{needs}
 use borrow.Author.Needs.{needs}
 use Rattle.membership.proofs.verdict.Statement.{statement}
 use Rattle.membership.proofs.verdict.Tie as tie

@@ -1,23 +1,21 @@
 -- `notation::read` meets its contract. Assumes nothing.
-use mathlib.Core.Path.{_≡_, refl, ap, sym, subst, _∙_}
+use mathlib.Core.Path.{_≡_, ap, sym, subst, _∙_}
 use mathlib.Core.List.{List}
-use Prim.Native.Nat.{ℕ, _+_, _*_, _≤_, _<_}
+use Prim.Native.Nat.{ℕ, _≤_, _<_}
 use native.Mathlib.Omega.{arith}
 use denote.Ref.{now}
 use lib.Dec.{ltb}
 use lib.ListN.{length}
 use borrow.Author.Tests.{lt-ltb, le-ltb}
 use Rattle.fdfa.specs.declared.Part.the-variants.{Out}
-use Rattle.fdfa.specs.declared.Refusal.{Refusal}
-use Rattle.fdfa.specs.Refusals.{Fault, sound, fault, when, Result, given, refused}
+use Rattle.fdfa.specs.Refusals.{Fault, sound, fault, when, given}
 use Rattle.fdfa.specs.Slices.{filled}
 use Rattle.fdfa.proofs.Refusals.{when-fails, when-passes, passed, failed, refuses, gives}
 use Rattle.notation.specs.Numerals.{skips}
 use Rattle.notation.specs.Reading.{judged, leadingRowsAt, lettersIn, statesIn, leadIn, bytesOf, faultOf, readFault, Readable, stepSays}
-use Rattle.notation.proofs.Stores.{stored-length, stored-written}
+use Rattle.notation.proofs.Stores.{stored-written}
 use Rattle.notation.proofs.RowsRead.{row-begins}
 use Rattle.notation.proofs.ReadSound.{Found, found, readable}
-use borrow.Author.Needs.{needs}
 use borrow.Author.Needs.{needs}
 use Rattle.notation.proofs.read.Statement.{statement}
 use Rattle.notation.proofs.read.Tie as tie

@@ -1,14 +1,14 @@
 -- `notation::write` meets its contract. Assumes nothing.
 use mathlib.Core.Path.{_≡_, refl, ap, sym, _∙_}
 use mathlib.Core.List.{List, [], _∷_, _++_}
-use Prim.Native.Nat.{ℕ, zero, _+_, _≤_, _<_}
+use Prim.Native.Nat.{ℕ, _+_, _≤_, _<_}
 use native.Mathlib.Omega.{arith}
 use denote.Ref.{now}
 use lib.Dec.{ltb}
 use lib.ListN.{length}
 use borrow.Author.Tests.{lt-ltb, le-ltb}
 use Rattle.fdfa.specs.declared.Part.the-variants.{First, Out}
-use Rattle.fdfa.specs.Refusals.{Fault, sound, fault, when, given, refused}
+use Rattle.fdfa.specs.Refusals.{Fault, sound, fault, when, given}
 use Rattle.fdfa.specs.Slices.{written, filled}
 use Rattle.fdfa.proofs.Refusals.{when-fails, when-passes, passed, failed, refuses, gives, was-given, was-refused}
 use Rattle.packed.specs.declared.Sizes.{Sizes}
@@ -18,7 +18,6 @@ use Rattle.packed.proofs.Soundness.{sound-valid}
 use Rattle.notation.specs.Text.{textOf}
 use Rattle.notation.specs.Writing.{writeFault}
 use Rattle.notation.proofs.Stores.{stored-length, stored-written}
-use borrow.Author.Needs.{needs}
 use borrow.Author.Needs.{needs}
 use Rattle.notation.proofs.write.Statement.{statement}
 use Rattle.notation.proofs.write.Tie as tie

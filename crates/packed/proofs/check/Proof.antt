@@ -1,12 +1,12 @@
 -- `packed::check` meets its contract: stage by stage, what is left to judge says the same as the whole. Assumes nothing.
-use mathlib.Core.Path.{_≡_, refl, ap, sym, _∙_}
-use mathlib.Core.Bool.{Bool, true, false, not}
+use mathlib.Core.Path.{_≡_, ap, sym, _∙_}
+use mathlib.Core.Bool.{not}
 use mathlib.Core.List.{List}
 use Prim.Native.Nat.{ℕ, _+_, _*_, _≤_, _<_}
 use native.Mathlib.Omega.{arith}
 use denote.Ref.{now}
 use lib.Dec.{ltb, eqb}
-use lib.ListN.{length, getD}
+use lib.ListN.{length}
 use borrow.Author.Tests.{lt-ltb, le-ltb, eq-eqb, ne-eqb}
 use Rattle.fdfa.specs.declared.Part.{Part}
 use Rattle.fdfa.specs.Refusals.{Fault, _then_, when, refused, unless}
@@ -15,7 +15,6 @@ use Rattle.packed.specs.Faults.{outside, firstOutside, scan, progressFau
 use Rattle.packed.proofs.Bounds.{few-both, progress-first, progress-upto, sheet-few}
 use Rattle.fdfa.proofs.Refusals.{when-fails, when-passes, passed, failed, refuses}
 use Rattle.packed.proofs.Scan.{inside, all-inside, scan-fails, scan-passes}
-use borrow.Author.Needs.{needs}
 use borrow.Author.Needs.{needs}
 use Rattle.packed.proofs.check.Statement.{statement}
 use Rattle.packed.proofs.check.Tie as tie

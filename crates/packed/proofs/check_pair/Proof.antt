@@ -4,11 +4,10 @@ use mathlib.Core.List.{List}
 use Prim.Native.Nat.{ℕ}
 use denote.Ref.{now}
 use Rattle.fdfa.specs.declared.Part.the-variants.{First}
-use Rattle.fdfa.specs.Refusals.{sound, Result, unless}
+use Rattle.fdfa.specs.Refusals.{sound, unless}
 use Rattle.fdfa.proofs.Refusals.{passed, failed, refuses, was-given, was-refused}
 use Rattle.packed.specs.declared.Sizes.{Sizes}
-use Rattle.packed.specs.Faults.{sheetFault, sizesOf, saysOf, secondFault, pairFault, BothSizes}
-use borrow.Author.Needs.{needs}
+use Rattle.packed.specs.Faults.{sheetFault, sizesOf, saysOf, secondFault, BothSizes}
 use borrow.Author.Needs.{needs}
 use Rattle.packed.proofs.check_pair.Statement.{statement}
 use Rattle.packed.proofs.check_pair.Tie as tie

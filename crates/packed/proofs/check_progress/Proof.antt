@@ -1,11 +1,10 @@
 -- `packed::check_progress` meets its contract: what is left to judge at q says the same as the whole. Assumes nothing.
 use mathlib.Core.Path.{_≡_, ap, sym, _∙_}
 use mathlib.Core.List.{List}
-use Prim.Native.Nat.{ℕ, _+_, _*_, _-_, _≤_, _<_}
+use Prim.Native.Nat.{ℕ, _+_, _*_, _-_, _≤_}
 use native.Mathlib.Omega.{arith}
 use native.Mathlib.Nat.{sub-zero}
 use denote.Ref.{now}
-use lib.ListN.{length}
 use Rattle.fdfa.specs.Refusals.{given, refused}
 use Rattle.fdfa.specs.Inclusion.{largest}
 use Rattle.packed.specs.Layout.{letterCount, stateCount, sizeOf, progressAt, marksAt, Header}

@@ -1,8 +1,6 @@
 -- `packed::check_second` meets its contract. Assumes nothing.
 use mathlib.Core.Path.{_≡_, ap, sym, _∙_}
 use mathlib.Core.Bool.{not}
-use mathlib.Core.List.{List}
-use Prim.Native.Nat.{ℕ}
 use denote.Ref.{now}
 use borrow.Author.Tests.{eq-eqb, ne-eqb}
 use Rattle.fdfa.specs.declared.Part.the-variants.{Second}
@@ -11,7 +9,6 @@ use Rattle.fdfa.proofs.Refusals.{when-fails, when-passes, passed, failed, refus
 use Rattle.packed.specs.declared.Sizes.{Sizes}
 use Rattle.packed.specs.Layout.{letterCount}
 use Rattle.packed.specs.Faults.{sheetFault, sizesOf, saysOf, BothSizes}
-use borrow.Author.Needs.{needs}
 use borrow.Author.Needs.{needs}
 use Rattle.packed.proofs.check_second.Statement.{statement}
 use Rattle.packed.proofs.check_second.Tie as tie

@@ -4,7 +4,7 @@ use mathlib.Core.Bool.{true, true≢false}
 use Prim.Native.Nat.{ℕ, _+_, _-_, _≤_, _<_}
 use native.Mathlib.Omega.{arith}
 use borrow.Author.Count.{below-more}
-use lib.ListN.{length, getD}
+use lib.ListN.{getD}
 use Rattle.fdfa.proofs.Least.{least-is, least-none}
 use Rattle.packed.specs.Faults.{outside, firstOutside}
 use borrow.Author.Needs.{needs}

@@ -1,9 +1,8 @@
 -- `packed::progress_at` meets its contract. Assumes nothing.
 use mathlib.Core.Path.{_≡_, ap, ap₂, sym, _∙_}
 use mathlib.Core.List.{List}
-use Prim.Native.Nat.{ℕ, _+_, _*_, _-_, _≤_, _<_}
+use Prim.Native.Nat.{ℕ, _+_, _*_, _-_, _≤_}
 use native.Mathlib.Omega.{arith}
-use lib.ListN.{length}
 use Rattle.packed.specs.Layout.{letterCount, stateCount, sizeOf, progressAt, Header}
 use Rattle.packed.proofs.Bounds.{few-both, part-few, progress-first, progress-next, progress-few}
 use borrow.Author.Needs.{needs}

@@ -1,10 +1,9 @@
 -- `packed::widest` meets its contract. Assumes nothing.
 use mathlib.Core.Path.{_≡_, refl, ap, _∙_}
 use mathlib.Core.Logic.{⊎-elim}
-use Prim.Native.Nat.{ℕ, suc, max, _+_, _-_, _≤_, _<_}
+use Prim.Native.Nat.{ℕ, max, _+_, _-_, _≤_}
 use native.Mathlib.Omega.{arith}
 use native.Mathlib.Numerals.{add-one}
-use lib.ListN.{length}
 use Rattle.fdfa.specs.Inclusion.{largest}
 use Rattle.packed.specs.Layout.{sizeOf}
 use borrow.Author.Needs.{needs}

@@ -1,10 +1,8 @@
 -- `players::fdfa_verdict` meets its contract. Assumes nothing.
-use mathlib.Core.Path.{_≡_, ap, _∙_}
+use mathlib.Core.Path.{ap, _∙_}
 use mathlib.Core.List.{List}
 use Prim.Native.Nat.{ℕ}
 use denote.Ref.{now}
-use Rattle.fdfa.specs.Acceptance.{Verdict}
-use Rattle.fdfa.specs.Refusals.{Result}
 use Rattle.fdfa.specs.Slices.{written}
 use Rattle.players.specs.Layout.{layout, verdictNumbers}
 use Rattle.players.proofs.Answering.{told-short, told-long}

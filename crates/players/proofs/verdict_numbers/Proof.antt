@@ -1,6 +1,6 @@
 -- `players::verdict_numbers` meets its contract. Assumes nothing.
-use mathlib.Core.Path.{_≡_, ap, sym, _∙_}
-use mathlib.Core.List.{List, [], _∷_}
+use mathlib.Core.Path.{ap, sym, _∙_}
+use mathlib.Core.List.{[], _∷_}
 use Prim.Native.Nat.{ℕ}
 use Rattle.membership.specs.declared.Judgement.{Judgement}
 use Rattle.membership.specs.Verdict.{saysOf}

@@ -1,14 +1,8 @@
-use mathlib.Core.Path.{_≡_, refl, ap, sym, _∙_}
-use denote.Ref.{now}
-use Prim.Native.Nat.{ℕ, _≤_, _<_, _-_, _+_}
+use Prim.Native.Nat.{_-_}
 use native.Mathlib.Omega.{arith}
-use borrow.Author.Needs.{needs}
-use lib.ListN.{length, length-set}
-use Rattle.search.proofs.Reading.{Counting, counting-start, counting-more, counting-less, counting-end, Filling, filling-start, filling-at, filling-more, filling-end}
+use Rattle.search.proofs.Reading.{Counting, counting-start, counting-more, counting-less, counting-end}
 use Rattle.search.proofs.depth.Statement.{statement}
 use Rattle.search.proofs.depth.Tie as tie
-use Rattle.search.proofs.depth.Reads as reads
-use Rattle.search.proofs.depth.Lts as lts
 
 abbrev Inv-loop : tie.InvT-loop
 Inv-loop cells code c₀ d₀ c d = Counting cells code c d

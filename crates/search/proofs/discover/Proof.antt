@@ -4,9 +4,6 @@ use Rattle.search.specs.Cells.{queued, flagged, fresh, seen}
 use borrow.Author.Needs.{needs}
 use Rattle.search.proofs.discover.Statement.{statement}
 use Rattle.search.proofs.discover.Tie as tie
-use Rattle.search.proofs.discover.Reads as reads
-use Rattle.search.proofs.discover.Lts as lts
-use Rattle.search.proofs.entry.Reads as entry-reads
 
 -- src/lib.rt:30:13
 mul-c : tie.Need-mul-c

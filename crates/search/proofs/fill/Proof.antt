@@ -1,14 +1,11 @@
-use mathlib.Core.Path.{_≡_, refl, ap, sym, _∙_}
+use mathlib.Core.Path.{_≡_, refl}
 use denote.Ref.{now}
-use Prim.Native.Nat.{ℕ, _≤_, _<_, _-_, _+_}
+use Prim.Native.Nat.{_-_}
 use native.Mathlib.Omega.{arith}
-use borrow.Author.Needs.{needs}
 use lib.ListN.{length, length-set}
-use Rattle.search.proofs.Reading.{Counting, counting-start, counting-more, counting-less, counting-end, Filling, filling-start, filling-at, filling-more, filling-end}
+use Rattle.search.proofs.Reading.{Filling, filling-start, filling-at, filling-more, filling-end}
 use Rattle.search.proofs.fill.Statement.{statement}
 use Rattle.search.proofs.fill.Tie as tie
-use Rattle.search.proofs.fill.Reads as reads
-use Rattle.search.proofs.fill.Lts as lts
 
 abbrev Inv-loop : tie.InvT-loop
 Inv-loop cells code len out₀ c₀ at₀ out c at = (length out ≡ length out₀) × Filling cells code len out₀ out c at

@@ -1,11 +1,8 @@
 use borrow.Author.Tests.{eq-eqb, ne-eqb}
-use native.Mathlib.Omega.{arith}
-use Rattle.search.specs.Cells.{stateAt, pickN}
+use Rattle.search.specs.Cells.{stateAt}
 use borrow.Author.Needs.{needs}
 use Rattle.search.proofs.state_of.Statement.{statement}
 use Rattle.search.proofs.state_of.Tie as tie
-use Rattle.search.proofs.state_of.Reads as reads
-use Rattle.search.proofs.state_of.Lts as lts
 
 -- src/lib.rt:50:23
 sub-c : tie.Need-sub-c

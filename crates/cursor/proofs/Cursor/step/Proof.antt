@@ -4,7 +4,6 @@ use denote.Ref.{now}
 use Rattle.cursor.specs.declared.Playing.the-variants.{Prefix, Period}
 use Rattle.cursor.proofs.Stepping.{is-prefix, is-period, step-refused, step-passes}
 use borrow.Author.Needs.{needs}
-use borrow.Author.Needs.{needs}
 use Rattle.cursor.proofs.Cursor.step.Statement.{statement}
 use Rattle.cursor.proofs.Cursor.step.Tie as tie
 

@@ -1,5 +1,5 @@
 -- `inclusion::dividing::inverse` meets its contract. Assumes nothing.
-use mathlib.Core.Path.{_≡_, refl}
+use mathlib.Core.Path.{refl}
 use native.Mathlib.Omega.{arith}
 use native.Mathlib.Nat.{div-le-self}
 use Rattle.inclusion.proofs.dividing.inverse.Statement.{statement}

@@ -5,9 +5,8 @@ use Prim.Native.Nat.{ℕ, _+_, _*_, _-_, _≤_, _<_}
 use native.Mathlib.Omega.{arith}
 use native.Mathlib.Nat.{add-mul, one-mul, zero-mul, mul-le-mul}
 use borrow.Author.Count.{below-more}
-use denote.Ref.{now}
 use lib.Arith.{digits-lt}
-use lib.ListN.{length, getD}
+use lib.ListN.{getD}
 use Rattle.inclusion.specs.declared.Beside.{Beside}
 use Rattle.inclusion.specs.Tables.{stepOf, Rows, RowWritten}
 use borrow.Author.Needs.{needs}

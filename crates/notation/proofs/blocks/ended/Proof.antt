@@ -1,5 +1,5 @@
 -- `notation::blocks::ended` meets its contract. Assumes nothing.
-use mathlib.Core.Path.{_≡_, ap, sym, _∙_}
+use mathlib.Core.Path.{ap, _∙_}
 use mathlib.Core.Bool.{not}
 use denote.Ref.{now}
 use lib.ListN.{length}
@@ -7,7 +7,6 @@ use borrow.Author.Tests.{eq-eqb, ne-eqb}
 use Rattle.fdfa.specs.declared.Part.the-variants.{First}
 use Rattle.fdfa.proofs.Refusals.{when-fails, when-passes, refuses, gives}
 use Rattle.notation.specs.Reading.{stepSays}
-use borrow.Author.Needs.{needs}
 use borrow.Author.Needs.{needs}
 use Rattle.notation.proofs.blocks.ended.Statement.{statement}
 use Rattle.notation.proofs.blocks.ended.Tie as tie

@@ -1,12 +1,10 @@
 -- `notation::blocks::judge_blocks` meets its contract. Assumes nothing.
-use mathlib.Core.Path.{_≡_, ap, sym, _∙_}
+use mathlib.Core.Path.{ap, sym, _∙_}
 use Prim.Native.Nat.{ℕ}
-use native.Mathlib.Omega.{arith}
 use denote.Ref.{now}
 use Rattle.fdfa.specs.Refusals.{Result}
 use Rattle.notation.specs.Reading.{_andThen_, leadingRowsAt, sizeIn, progressAt, endAt, blocksAt, stepSays}
 use Rattle.notation.proofs.Steps.{goes-on, stops}
-use borrow.Author.Needs.{needs}
 use borrow.Author.Needs.{needs}
 use Rattle.notation.proofs.blocks.judge_blocks.Statement.{statement}
 use Rattle.notation.proofs.blocks.judge_blocks.Tie as tie

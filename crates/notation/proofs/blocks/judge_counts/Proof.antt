@@ -1,16 +1,13 @@
 -- `notation::blocks::judge_counts` meets its contract. Assumes nothing.
 use mathlib.Core.Path.{_≡_, ap, sym, subst, _∙_}
 use Prim.Native.Nat.{ℕ, _≤_}
-use native.Mathlib.Omega.{arith}
 use denote.Ref.{now}
-use lib.ListN.{length}
 use Rattle.fdfa.specs.Refusals.{Result, given}
 use Rattle.notation.specs.declared.Row.{Row}
 use Rattle.notation.specs.Numerals.{entry}
-use Rattle.notation.specs.Reading.{_andThen_, rowAt, countsRow, blocksAt, countsAt, stepSays}
+use Rattle.notation.specs.Reading.{rowAt, countsRow, blocksAt, countsAt, stepSays}
 use Rattle.notation.proofs.Steps.{goes-on, stops}
 use Rattle.notation.proofs.RowsRead.{counts-few}
-use borrow.Author.Needs.{needs}
 use borrow.Author.Needs.{needs}
 use Rattle.notation.proofs.blocks.judge_counts.Statement.{statement}
 use Rattle.notation.proofs.blocks.judge_counts.Tie as tie

@@ -1,9 +1,8 @@
 -- `notation::blocks::judge_progress` meets its contract. Assumes nothing.
-use mathlib.Core.Path.{_≡_, ap, sym, _∙_}
+use mathlib.Core.Path.{ap, sym, _∙_}
 use denote.Ref.{now}
 use Rattle.notation.specs.Reading.{endAt, stepSays}
 use Rattle.notation.proofs.Steps.{goes-on, stops}
-use borrow.Author.Needs.{needs}
 use borrow.Author.Needs.{needs}
 use Rattle.notation.proofs.blocks.judge_progress.Statement.{statement}
 use Rattle.notation.proofs.blocks.judge_progress.Tie as tie

@@ -1,9 +1,8 @@
 -- `notation::blocks::lead_at` meets its contract. Assumes nothing.
-use mathlib.Core.Path.{_≡_, ap}
+use mathlib.Core.Path.{ap}
 use Prim.Native.Nat.{ℕ, _+_}
 use native.Mathlib.Omega.{arith}
 use Rattle.notation.proofs.LetterNames.{names-few}
-use borrow.Author.Needs.{needs}
 use borrow.Author.Needs.{needs}
 use Rattle.notation.proofs.blocks.lead_at.Statement.{statement}
 use Rattle.notation.proofs.blocks.lead_at.Tie as tie

@@ -1,11 +1,9 @@
 -- `notation::blocks::leading_block` meets its contract. Assumes nothing.
-use mathlib.Core.Path.{_≡_, ap, sym, _∙_}
-use native.Mathlib.Omega.{arith}
+use mathlib.Core.Path.{ap, sym, _∙_}
 use denote.Ref.{now}
 use Rattle.notation.specs.declared.Row.{Row}
 use Rattle.notation.specs.Reading.{each, rowAt, turnedOf, leadingRow, leadingAt, stepSays}
 use Rattle.notation.proofs.Steps.{goes-on, stops}
-use borrow.Author.Needs.{needs}
 use borrow.Author.Needs.{needs}
 use Rattle.notation.proofs.blocks.leading_block.Statement.{statement}
 use Rattle.notation.proofs.blocks.leading_block.Tie as tie

@@ -1,12 +1,10 @@
 -- `notation::blocks::progress_block` meets its contract. Assumes nothing.
-use mathlib.Core.Path.{_≡_, ap, sym, _∙_}
+use mathlib.Core.Path.{ap, sym, _∙_}
 use Prim.Native.Nat.{ℕ}
-use native.Mathlib.Omega.{arith}
 use Rattle.fdfa.specs.Refusals.{Result}
 use denote.Ref.{now}
 use Rattle.notation.specs.Reading.{sizeIn, partsAt, progressAt, stepSays}
 use Rattle.notation.proofs.Steps.{goes-on, stops}
-use borrow.Author.Needs.{needs}
 use borrow.Author.Needs.{needs}
 use Rattle.notation.proofs.blocks.progress_block.Statement.{statement}
 use Rattle.notation.proofs.blocks.progress_block.Tie as tie

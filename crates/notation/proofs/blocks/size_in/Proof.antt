@@ -1,11 +1,10 @@
 -- `notation::blocks::size_in` meets its contract. Assumes nothing.
-use mathlib.Core.Path.{_≡_, sym, subst}
+use mathlib.Core.Path.{sym, subst}
 use Prim.Native.Nat.{ℕ, _+_, _*_, _≤_, _<_}
 use native.Mathlib.Omega.{arith}
 use native.Mathlib.Nat.{mul-le-mul}
 use denote.Ref.{now}
 use Rattle.notation.proofs.RowsRead.{entry-small}
-use borrow.Author.Needs.{needs}
 use borrow.Author.Needs.{needs}
 use Rattle.notation.proofs.blocks.size_in.Statement.{statement}
 use Rattle.notation.proofs.blocks.size_in.Tie as tie

@@ -1,5 +1,5 @@
 -- `notation::filling::fill` meets its contract. Assumes nothing.
-use mathlib.Core.Path.{_≡_, ap, sym, _∙_}
+use mathlib.Core.Path.{_≡_, ap, _∙_}
 use mathlib.Core.List.{List}
 use Prim.Native.Nat.{ℕ, _+_, _*_, _≤_}
 use native.Mathlib.Omega.{arith}
@@ -12,9 +12,7 @@ use Rattle.notation.specs.Text.{names}
 use Rattle.notation.specs.Numerals.{skips}
 use Rattle.notation.specs.Reading.{lettersIn, statesIn, leadIn, progressIn, familyOf, bytesOf}
 use Rattle.notation.proofs.Stores.{stored-then, stored-length}
-use Rattle.notation.proofs.LetterNames.{names-few}
 use Rattle.notation.proofs.Measures.{front-few, bytes-split}
-use borrow.Author.Needs.{needs}
 use borrow.Author.Needs.{needs}
 use Rattle.notation.proofs.filling.fill.Statement.{statement}
 use Rattle.notation.proofs.filling.fill.Tie as tie

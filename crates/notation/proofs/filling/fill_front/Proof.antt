@@ -1,5 +1,5 @@
 -- `notation::filling::fill_front` meets its contract. Assumes nothing.
-use mathlib.Core.Path.{_≡_, _∙_}
+use mathlib.Core.Path.{_∙_}
 use mathlib.Core.List.{List}
 use Prim.Native.Nat.{ℕ, _+_, _*_, _≤_}
 use native.Mathlib.Omega.{arith}
@@ -11,7 +11,6 @@ use Rattle.notation.specs.Numerals.{entry}
 use Rattle.notation.proofs.Stores.{stored-length}
 use Rattle.notation.proofs.Measures.{front-few}
 use Rattle.notation.proofs.Gathered.{sizes-few, steps-few, front-size, front-stored, pair-stored, pair-length}
-use borrow.Author.Needs.{needs}
 use borrow.Author.Needs.{needs}
 use Rattle.notation.proofs.filling.fill_front.Statement.{statement}
 use Rattle.notation.proofs.filling.fill_front.Tie as tie

@@ -1,13 +1,11 @@
 -- `notation::filling::fill_part` meets its contract. Assumes nothing.
-use mathlib.Core.Path.{_≡_}
-use Prim.Native.Nat.{ℕ, _+_, _*_}
+use Prim.Native.Nat.{_+_, _*_}
 use native.Mathlib.Omega.{arith}
 use denote.Ref.{now}
 use Rattle.packed.proofs.Tabulated.{length-table}
 use Rattle.notation.specs.Numerals.{entry}
 use Rattle.notation.proofs.Stores.{stored-length}
 use Rattle.notation.proofs.Gathered.{s-few, k-few, table-few, marks-few, part-size, part-stored}
-use borrow.Author.Needs.{needs}
 use borrow.Author.Needs.{needs}
 use Rattle.notation.proofs.filling.fill_part.Statement.{statement}
 use Rattle.notation.proofs.filling.fill_part.Tie as tie

@@ -1,11 +1,9 @@
 -- `notation::filling::fill_table` meets its contract. Assumes nothing.
-use mathlib.Core.Path.{_≡_, ap, sym, subst, _∙_}
-use mathlib.Core.List.{List}
+use mathlib.Core.Path.{_≡_, ap, sym, subst}
 use Prim.Native.Nat.{ℕ, _+_, _*_, _-_, _≤_, _<_}
 use native.Mathlib.Omega.{arith}
 use native.Mathlib.Nat.{mul-le-mul}
 use denote.Ref.{now}
-use lib.ListN.{length}
 use Rattle.packed.specs.Tables.{tab, rows}
 use Rattle.packed.proofs.Tabulated.{length-tab, tab-same}
 use Rattle.notation.specs.Numerals.{entry}

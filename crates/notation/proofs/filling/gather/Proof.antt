@@ -1,11 +1,10 @@
 -- `notation::filling::gather` meets its contract. Assumes nothing.
 use mathlib.Core.Path.{_≡_, ap, sym, subst, _∙_}
-use mathlib.Core.List.{List, [], _∷_}
+use mathlib.Core.List.{[], _∷_}
 use Prim.Native.Nat.{ℕ, _+_, _*_, _-_, _≤_, _<_}
 use native.Mathlib.Omega.{arith}
 use native.Mathlib.Nat.{mul-le-mul}
 use denote.Ref.{now}
-use lib.ListN.{length}
 use Rattle.packed.specs.Tables.{tab}
 use Rattle.notation.specs.Numerals.{entry}
 use Rattle.notation.specs.Writing.{Stored}

@@ -1,11 +1,11 @@
 -- `notation::filling::needed` meets its contract. Assumes nothing.
-use mathlib.Core.Path.{_≡_, ap, sym, _∙_}
+use mathlib.Core.Path.{_≡_, sym, _∙_}
 use mathlib.Core.List.{List}
 use Prim.Native.Nat.{ℕ, _+_, _*_, _-_, _≤_, _<_}
 use native.Mathlib.Omega.{arith}
 use denote.Ref.{now}
 use Rattle.packed.specs.Tables.{sum}
-use Rattle.notation.specs.Reading.{lettersIn, statesIn, sizeIn, familyOf}
+use Rattle.notation.specs.Reading.{statesIn, sizeIn, familyOf}
 use Rattle.notation.proofs.Measures.{partLength, front-few, part-room, sum-room, sum-next, sum-none, bytes-length}
 use borrow.Author.Needs.{needs}
 use Rattle.notation.proofs.filling.needed.Statement.{statement}

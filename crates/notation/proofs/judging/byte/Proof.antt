@@ -1,9 +1,8 @@
 -- `notation::judging::byte` meets its contract. Assumes nothing.
-use mathlib.Core.Path.{_≡_, ap, sym, _∙_}
+use mathlib.Core.Path.{ap, sym, _∙_}
 use denote.Ref.{now}
 use Rattle.notation.specs.Reading.{stepSays}
 use Rattle.notation.proofs.Steps.{byte-past, byte-here, byte-other}
-use borrow.Author.Needs.{needs}
 use borrow.Author.Needs.{needs}
 use Rattle.notation.proofs.judging.byte.Statement.{statement}
 use Rattle.notation.proofs.judging.byte.Tie as tie

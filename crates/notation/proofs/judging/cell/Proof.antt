@@ -6,7 +6,6 @@ use Rattle.notation.specs.Numerals.{numberAt}
 use Rattle.notation.specs.Reading.{stepSays}
 use Rattle.notation.proofs.Steps.{cell-bad, cell-low, cell-high, cell-good}
 use borrow.Author.Needs.{needs}
-use borrow.Author.Needs.{needs}
 use Rattle.notation.proofs.judging.cell.Statement.{statement}
 use Rattle.notation.proofs.judging.cell.Tie as tie
 

@@ -1,9 +1,8 @@
 -- `notation::judging::head` meets its contract. Assumes nothing.
-use mathlib.Core.Path.{_≡_, ap, sym, _∙_}
+use mathlib.Core.Path.{ap, sym, _∙_}
 use denote.Ref.{now}
 use Rattle.notation.specs.Reading.{namesAt, stepSays}
 use Rattle.notation.proofs.Steps.{goes-on, stops}
-use borrow.Author.Needs.{needs}
 use borrow.Author.Needs.{needs}
 use Rattle.notation.proofs.judging.head.Statement.{statement}
 use Rattle.notation.proofs.judging.head.Tie as tie

@@ -9,7 +9,6 @@ use Rattle.notation.proofs.LetterNames.{names-few}
 use Rattle.notation.proofs.Steps.{goes-on, stops}
 use Rattle.notation.proofs.Titles.{names-literal}
 use borrow.Author.Needs.{needs}
-use borrow.Author.Needs.{needs}
 use Rattle.notation.proofs.judging.head_names.Statement.{statement}
 use Rattle.notation.proofs.judging.head_names.Tie as tie
 

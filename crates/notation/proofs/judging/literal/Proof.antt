@@ -1,7 +1,6 @@
 -- `notation::judging::literal` meets its contract. Assumes nothing.
 use mathlib.Core.Path.{_≡_, ap, sym, _∙_}
-use Prim.Native.Nat.{ℕ, _+_, _-_, _≤_}
-use native.Mathlib.Omega.{arith}
+use Prim.Native.Nat.{_-_, _≤_}
 use denote.Ref.{now}
 use lib.ListN.{getD}
 use Rattle.notation.specs.Reading.{each, byteAt, literalAt, stepSays}

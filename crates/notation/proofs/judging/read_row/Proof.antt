@@ -1,7 +1,6 @@
 -- `notation::judging::read_row` meets its contract. Assumes nothing.
 use mathlib.Core.Path.{_≡_, ap, sym, _∙_}
-use Prim.Native.Nat.{ℕ, _+_, _-_, _≤_}
-use native.Mathlib.Omega.{arith}
+use Prim.Native.Nat.{_-_, _≤_}
 use denote.Ref.{now}
 use Rattle.notation.specs.Text.{separator}
 use Rattle.notation.specs.Reading.{each, cellAt, columnOf, rowAt, stepSays}

@@ -6,7 +6,6 @@ use Rattle.notation.specs.declared.Column.{Column}
 use Rattle.notation.specs.declared.Row.{Row}
 use Rattle.notation.specs.Reading.{due, turnedOf}
 use borrow.Author.Needs.{needs}
-use borrow.Author.Needs.{needs}
 use Rattle.notation.proofs.judging.turned.Statement.{statement}
 use Rattle.notation.proofs.judging.turned.Tie as tie
 

@@ -1,9 +1,7 @@
 -- `notation::numbers::entry` meets its contract. Assumes nothing.
 use mathlib.Core.Path.{_≡_, ap, sym, _∙_}
-use Prim.Native.Nat.{ℕ}
 use denote.Ref.{now}
 use Rattle.notation.specs.Numerals.{numberAt, valueIn, entry}
-use borrow.Author.Needs.{needs}
 use borrow.Author.Needs.{needs}
 use Rattle.notation.proofs.numbers.entry.Statement.{statement}
 use Rattle.notation.proofs.numbers.entry.Tie as tie

@@ -1,6 +1,5 @@
 -- `notation::numbers::number_at` meets its contract. Assumes nothing.
 use mathlib.Core.Path.{_≡_, ap, sym, _∙_}
-use mathlib.Core.Bool.{Bool}
 use Prim.Native.Nat.{ℕ, _+_}
 use native.Mathlib.Omega.{arith}
 use denote.Ref.{now}
@@ -8,7 +7,6 @@ use lib.ListN.{getD}
 use Rattle.notation.specs.declared.Number.the-variants.{Good}
 use Rattle.notation.specs.Numerals.{runOf, valueOf, malformed}
 use Rattle.notation.proofs.Runs.{run-bound, run-digits, well-formed, number-none, number-bad, number-good}
-use borrow.Author.Needs.{needs}
 use borrow.Author.Needs.{needs}
 use Rattle.notation.proofs.numbers.number_at.Statement.{statement}
 use Rattle.notation.proofs.numbers.number_at.Tie as tie

@@ -2,7 +2,6 @@
 use Rattle.notation.specs.Numerals.{runOf}
 use Rattle.notation.proofs.Runs.{run-none}
 use borrow.Author.Needs.{needs}
-use borrow.Author.Needs.{needs}
 use Rattle.notation.proofs.numbers.run.Statement.{statement}
 use Rattle.notation.proofs.numbers.run.Tie as tie
 

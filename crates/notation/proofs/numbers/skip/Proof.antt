@@ -1,10 +1,9 @@
 -- `notation::numbers::skip` meets its contract. Assumes nothing.
-use mathlib.Core.Path.{_≡_, ap, sym, _∙_}
+use mathlib.Core.Path.{ap, sym, _∙_}
 use Prim.Native.Nat.{ℕ, _+_}
 use native.Mathlib.Omega.{arith}
 use denote.Ref.{now}
 use Rattle.notation.proofs.Runs.{run-bound, skip-none, skip-on}
-use borrow.Author.Needs.{needs}
 use borrow.Author.Needs.{needs}
 use Rattle.notation.proofs.numbers.skip.Statement.{statement}
 use Rattle.notation.proofs.numbers.skip.Tie as tie

@@ -1,11 +1,9 @@
 -- `notation::numbers::value` meets its contract. Assumes nothing.
 use mathlib.Core.Path.{_≡_, ap, sym, _∙_}
-use Prim.Native.Nat.{ℕ, _+_}
 use native.Mathlib.Omega.{arith}
 use denote.Ref.{now}
 use Rattle.notation.specs.Numerals.{valueOf}
 use Rattle.notation.proofs.Runs.{first-digit, value-one, value-two, value-three}
-use borrow.Author.Needs.{needs}
 use borrow.Author.Needs.{needs}
 use Rattle.notation.proofs.numbers.value.Statement.{statement}
 use Rattle.notation.proofs.numbers.value.Tie as tie

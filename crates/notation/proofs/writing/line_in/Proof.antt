@@ -12,7 +12,6 @@ use Rattle.notation.specs.declared.Line.{Line}
 use Rattle.notation.specs.declared.Lines.{Lines}
 use Rattle.notation.specs.Writing.{Writable, lineIn, AllWritable}
 use borrow.Author.Needs.{needs}
-use borrow.Author.Needs.{needs}
 use Rattle.notation.proofs.writing.line_in.Statement.{statement}
 use Rattle.notation.proofs.writing.line_in.Tie as tie
 

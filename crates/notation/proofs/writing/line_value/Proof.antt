@@ -9,7 +9,6 @@ use borrow.Author.Tests.{le-leb, lt-leb, eq-eqb, ne-eqb}
 use Rattle.notation.specs.declared.Line.{Line}
 use Rattle.notation.specs.Writing.{lineValue}
 use borrow.Author.Needs.{needs}
-use borrow.Author.Needs.{needs}
 use Rattle.notation.proofs.writing.line_value.Statement.{statement}
 use Rattle.notation.proofs.writing.line_value.Tie as tie
 

@@ -3,7 +3,6 @@ use mathlib.Core.Path.{sym}
 use native.Mathlib.Omega.{arith}
 use Rattle.notation.proofs.LetterNames.{names-short, length-names}
 use borrow.Author.Needs.{needs}
-use borrow.Author.Needs.{needs}
 use Rattle.notation.proofs.writing.names_len.Statement.{statement}
 use Rattle.notation.proofs.writing.names_len.Tie as tie
 

@@ -4,7 +4,6 @@ use mathlib.Core.Path.{ap, _∙_}
 use lib.ListN.{length, length-set}
 use Rattle.notation.proofs.Stores.{stored-byte, stored-past, stored-new}
 use borrow.Author.Needs.{needs}
-use borrow.Author.Needs.{needs}
 use Rattle.notation.proofs.writing.put.Statement.{statement}
 use Rattle.notation.proofs.writing.put.Tie as tie
 

@@ -1,7 +1,6 @@
 -- `notation::writing::put_cell` meets its contract. Assumes nothing.
 use Rattle.notation.proofs.Decimal.{cell-one, cell-two, cell-three}
 use borrow.Author.Needs.{needs}
-use borrow.Author.Needs.{needs}
 use Rattle.notation.proofs.writing.put_cell.Statement.{statement}
 use Rattle.notation.proofs.writing.put_cell.Tie as tie
 

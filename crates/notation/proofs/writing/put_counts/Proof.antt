@@ -1,11 +1,9 @@
 -- `notation::writing::put_counts` meets its contract. Assumes nothing.
-use Prim.Native.Nat.{ℕ}
 use native.Mathlib.Omega.{arith}
 use denote.Ref.{now}
 use lib.ListN.{getD}
 use Rattle.notation.specs.Text.{countsTitle}
 use Rattle.notation.proofs.BlocksStored.{tab-end, counts-writable, counts-stored}
-use borrow.Author.Needs.{needs}
 use borrow.Author.Needs.{needs}
 use Rattle.notation.proofs.writing.put_counts.Statement.{statement}
 use Rattle.notation.proofs.writing.put_counts.Tie as tie

@@ -1,11 +1,9 @@
 -- `notation::writing::put_head` meets its contract. Assumes nothing.
-use Prim.Native.Nat.{ℕ}
 use native.Mathlib.Omega.{arith}
 use denote.Ref.{now}
 use lib.ListN.{getD}
 use Rattle.notation.proofs.LetterNames.{allNames, names-few}
 use Rattle.notation.proofs.BlocksStored.{tab-end, head-stored}
-use borrow.Author.Needs.{needs}
 use borrow.Author.Needs.{needs}
 use Rattle.notation.proofs.writing.put_head.Statement.{statement}
 use Rattle.notation.proofs.writing.put_head.Tie as tie

@@ -1,9 +1,7 @@
 -- `notation::writing::put_leading` meets its contract. Assumes nothing.
-use Prim.Native.Nat.{ℕ}
 use native.Mathlib.Omega.{arith}
 use denote.Ref.{now}
 use Rattle.notation.proofs.BlocksStored.{few-s, few-n, leading-writable, leading-stored}
-use borrow.Author.Needs.{needs}
 use borrow.Author.Needs.{needs}
 use Rattle.notation.proofs.writing.put_leading.Statement.{statement}
 use Rattle.notation.proofs.writing.put_leading.Tie as tie

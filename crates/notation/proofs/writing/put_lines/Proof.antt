@@ -1,12 +1,9 @@
 -- `notation::writing::put_lines` meets its contract. Assumes nothing.
 use mathlib.Core.Path.{_≡_, ap}
-use mathlib.Core.List.{List}
 use Prim.Native.Nat.{ℕ, _+_, _*_, _-_, _≤_}
 use native.Mathlib.Omega.{arith}
 use denote.Ref.{now}
 use Rattle.packed.specs.Tables.{rows}
-use Rattle.notation.specs.declared.Line.{Line}
-use Rattle.notation.specs.Text.{cell, separator}
 use Rattle.notation.specs.Writing.{Stored, lineValue, lineText, lineIn}
 use Rattle.notation.proofs.Stores.{stored-none-rows, stored-row, stored-length, stored-as}
 use Rattle.notation.proofs.Decimal.{length-line}

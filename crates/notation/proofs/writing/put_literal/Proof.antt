@@ -3,7 +3,7 @@ use mathlib.Core.Path.{_≡_, ap}
 use Prim.Native.Nat.{ℕ, _+_, _-_, _≤_}
 use native.Mathlib.Omega.{arith}
 use denote.Ref.{now}
-use lib.ListN.{length, getD}
+use lib.ListN.{getD}
 use Rattle.packed.specs.Tables.{tab}
 use Rattle.notation.specs.Writing.{Stored}
 use Rattle.notation.proofs.Stores.{stored-none-tab, stored-entry, stored-length, stored-as}

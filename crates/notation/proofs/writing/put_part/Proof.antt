@@ -1,10 +1,9 @@
 -- `notation::writing::put_part` meets its contract. Assumes nothing.
-use Prim.Native.Nat.{ℕ, _≤_}
+use Prim.Native.Nat.{_≤_}
 use native.Mathlib.Omega.{arith}
 use denote.Ref.{now}
-use Rattle.packed.proofs.Bounds.{few-both, sheet-few}
+use Rattle.packed.proofs.Bounds.{few-both}
 use Rattle.notation.proofs.BlocksStored.{few-s, within, part-writable, part-stored}
-use borrow.Author.Needs.{needs}
 use borrow.Author.Needs.{needs}
 use Rattle.notation.proofs.writing.put_part.Statement.{statement}
 use Rattle.notation.proofs.writing.put_part.Tie as tie

@@ -5,7 +5,6 @@ use Rattle.packed.specs.Layout.{decode}
 use Rattle.notation.specs.Text.{countsText, leadingText, progressText, textOf}
 use Rattle.notation.proofs.Stores.{stored-then}
 use borrow.Author.Needs.{needs}
-use borrow.Author.Needs.{needs}
 use Rattle.notation.proofs.writing.put_sheet.Statement.{statement}
 use Rattle.notation.proofs.writing.put_sheet.Tie as tie
 

@@ -1,7 +1,6 @@
 -- `notation::writing::separator` meets its contract. Assumes nothing.
 use borrow.Author.Tests.{eq-eqb, ne-eqb}
 use borrow.Author.Needs.{needs}
-use borrow.Author.Needs.{needs}
 use Rattle.notation.proofs.writing.separator.Statement.{statement}
 use Rattle.notation.proofs.writing.separator.Tie as tie
 

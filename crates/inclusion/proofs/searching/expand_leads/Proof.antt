@@ -1,14 +1,13 @@
--- `inclusion::expand_leads` meets its contract. Assumes nothing.
-use mathlib.Core.Path.{_≡_, refl, ap, sym, _∙_}
-use Prim.Native.Nat.{ℕ, _+_, _*_, _-_, _/_, _%_, _≤_, _<_}
+-- `inclusion::searching::expand_leads` meets its contract. Assumes nothing.
+use mathlib.Core.Path.{sym}
+use Prim.Native.Nat.{_-_, _<_}
 use native.Mathlib.Omega.{arith}
 use denote.Ref.{now}
 use lib.ListN.{length}
 use Rattle.search.proofs.Expand.{Expanding, expand-start, expand-inside, expand-ready, expand-more, expand-end, search-most}
 use Rattle.inclusion.specs.Tables.{stepOf}
-use borrow.Author.Needs.{needs}
-use Rattle.inclusion.proofs.expand_leads.Statement.{statement}
-use Rattle.inclusion.proofs.expand_leads.Tie as tie
+use Rattle.inclusion.proofs.searching.expand_leads.Statement.{statement}
+use Rattle.inclusion.proofs.searching.expand_leads.Tie as tie
 
 abbrev Inv-loop : tie.InvT-loop
 Inv-loop first second t cells₀ head total q x y codes₀ a₀ cells codes a = Expanding (stepOf first second t) 0 (t .letters) 0 (length cells₀) cells₀ total cells codes head a q

@@ -1,20 +1,17 @@
--- `inclusion::progress_of` meets its contract. Assumes nothing.
-use mathlib.Core.Path.{_≡_, refl, ap, ap₂, sym, _∙_}
+-- `inclusion::searching::progress_of` meets its contract. Assumes nothing.
+use mathlib.Core.Path.{_≡_, ap, _∙_}
 use mathlib.Core.List.{List}
-use Prim.Native.Nat.{ℕ, _+_, _*_, _≤_, _<_}
+use Prim.Native.Nat.{ℕ, _+_, _*_, _<_}
 use native.Mathlib.Omega.{arith}
 use native.Mathlib.Nat.{mul-pos}
 use denote.Ref.{now}
-use lib.ListN.{length}
-use Rattle.packed.specs.Layout.{letterCount, stateCount, sizeOf, progressAt, Valid}
+use Rattle.packed.specs.Layout.{letterCount, sizeOf, progressAt}
 use Rattle.packed.proofs.Bounds.{Body, body, few-both}
 use Rattle.inclusion.specs.declared.Beside.{Beside}
 use Rattle.inclusion.specs.declared.Progress.{Progress}
 use Rattle.inclusion.specs.Tables.{inverseOf, progressOf}
-use borrow.Author.Needs.{needs}
-use borrow.Author.Needs.{needs}
-use Rattle.inclusion.proofs.progress_of.Statement.{statement}
-use Rattle.inclusion.proofs.progress_of.Tie as tie
+use Rattle.inclusion.proofs.searching.progress_of.Statement.{statement}
+use Rattle.inclusion.proofs.searching.progress_of.Tie as tie
 
 abbrev start : tie.After-progress-at2 → tie.Start
 start c = c .before .before .before .before .before .before

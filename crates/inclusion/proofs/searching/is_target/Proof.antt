@@ -1,4 +1,4 @@
--- `inclusion::is_target` meets its contract. Assumes nothing.
+-- `inclusion::searching::is_target` meets its contract. Assumes nothing.
 use mathlib.Core.Path.{_≡_, ap, _∙_}
 use Prim.Native.Nat.{ℕ, _+_, _*_, _-_, _/_, _%_, _≤_}
 use native.Mathlib.Omega.{arith}
@@ -8,8 +8,8 @@ use lib.Dec.{eqb}
 use lib.ListN.{getD}
 use Rattle.inclusion.proofs.Quotients.{away-before, away-after, back, back-rest}
 use Rattle.inclusion.proofs.Targets.{target-root, target-away, target-unmarked, target-is, first-reads, second-reads}
-use Rattle.inclusion.proofs.is_target.Statement.{statement}
-use Rattle.inclusion.proofs.is_target.Tie as tie
+use Rattle.inclusion.proofs.searching.is_target.Statement.{statement}
+use Rattle.inclusion.proofs.searching.is_target.Tie as tie
 
 -- back at the pair
 abbrev start : tie.Else3 → tie.Start

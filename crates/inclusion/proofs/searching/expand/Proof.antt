@@ -1,4 +1,4 @@
--- `inclusion::expand` meets its contract. Assumes nothing.
+-- `inclusion::searching::expand` meets its contract. Assumes nothing.
 use mathlib.Core.Path.{_≡_, ap, ap₂, sym, subst, _∙_}
 use Prim.Native.Nat.{ℕ, _+_, _*_, _-_, _/_, _%_, _≤_, _<_}
 use native.Mathlib.Omega.{arith}
@@ -10,10 +10,10 @@ use Rattle.fdfa.specs.Family.{Closed}
 use Rattle.fdfa.specs.Boolean.{beside}
 use Rattle.fdfa.proofs.Product.{left-below, beside-closed}
 use Rattle.search.proofs.Expand.{Expanding, expand-start, expand-inside, expand-ready, expand-more, expand-end}
-use Rattle.inclusion.specs.Tables.{stepOf, Steps, Joint, Rows, Tabled}
+use Rattle.inclusion.specs.Tables.{stepOf, Joint, Tabled}
 use borrow.Author.Needs.{needs}
-use Rattle.inclusion.proofs.expand.Statement.{statement}
-use Rattle.inclusion.proofs.expand.Tie as tie
+use Rattle.inclusion.proofs.searching.expand.Statement.{statement}
+use Rattle.inclusion.proofs.searching.expand.Tie as tie
 
 abbrev Inv-loop : tie.InvT-loop
 Inv-loop first second t g leads rows root x cells₀ head total q lead progress codes₀ a₀ cells codes a =

@@ -1,11 +1,7 @@
--- `inclusion::can_end` meets its contract. Assumes nothing.
-use mathlib.Core.Path.{_≡_}
-use native.Mathlib.Omega.{arith}
+-- `inclusion::searching::can_end` meets its contract. Assumes nothing.
 use Rattle.inclusion.proofs.Targets.{none-marked, all-marked}
-use borrow.Author.Needs.{needs}
-use borrow.Author.Needs.{needs}
-use Rattle.inclusion.proofs.can_end.Statement.{statement}
-use Rattle.inclusion.proofs.can_end.Tie as tie
+use Rattle.inclusion.proofs.searching.can_end.Statement.{statement}
+use Rattle.inclusion.proofs.searching.can_end.Tie as tie
 
 first-outside-requires : tie.Need-first-outside-requires
 first-outside-requires c κs = c .before .before .pre .first

@@ -1,9 +1,9 @@
--- `inclusion::next_pair` meets its contract. Assumes nothing.
-use mathlib.Core.Path.{_≡_, ap, ap₂}
-use Prim.Native.Nat.{ℕ, _+_, _*_, _<_}
+-- `inclusion::searching::next_pair` meets its contract. Assumes nothing.
+use mathlib.Core.Path.{ap, ap₂}
+use Prim.Native.Nat.{ℕ, _+_, _*_}
 use native.Mathlib.Omega.{arith}
-use Rattle.inclusion.proofs.next_pair.Statement.{statement}
-use Rattle.inclusion.proofs.next_pair.Tie as tie
+use Rattle.inclusion.proofs.searching.next_pair.Statement.{statement}
+use Rattle.inclusion.proofs.searching.next_pair.Tie as tie
 
 next-requires : tie.Need-next-requires
 next-requires c κs = c .before .before .pre .0 .first _ (c .before .before .pre .1)

@@ -1,17 +1,16 @@
--- `inclusion::reach` meets its contract. Assumes nothing.
+-- `inclusion::searching::reach` meets its contract. Assumes nothing.
 use mathlib.Core.Path.{_≡_, refl, ap, sym, subst, _∙_}
-use mathlib.Core.List.{List}
-use Prim.Native.Nat.{ℕ, _+_, _*_, _-_, _≤_, _<_}
+use Prim.Native.Nat.{ℕ, _-_, _≤_}
 use native.Mathlib.Omega.{arith}
 use denote.Ref.{now}
-use lib.ListN.{length, set, replicate, length-set, length-replicate}
+use lib.ListN.{length, set, length-set, length-replicate}
 use Rattle.search.specs.Search.{Search}
 use Rattle.search.proofs.Expand.{search-most}
 use Rattle.search.proofs.Places.{roots, sized, headed}
 use Rattle.inclusion.specs.Tables.{stepOf, Steps}
 use borrow.Author.Needs.{needs}
-use Rattle.inclusion.proofs.reach.Statement.{statement}
-use Rattle.inclusion.proofs.reach.Tie as tie
+use Rattle.inclusion.proofs.searching.reach.Statement.{statement}
+use Rattle.inclusion.proofs.searching.reach.Tie as tie
 
 abbrev Inv-loop : tie.InvT-loop
 Inv-loop first second t cells₀ reached₀ head₀ cells reached head =

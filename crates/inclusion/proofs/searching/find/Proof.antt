@@ -1,12 +1,11 @@
--- `inclusion::find` meets its contract: what the two nested searches keep. Assumes nothing.
+-- `inclusion::searching::find` meets its contract: what the two nested searches keep. Assumes nothing.
 use mathlib.Core.Path.{_≡_, refl, ap, sym, subst, _∙_}
-use mathlib.Core.Bool.{true, false}
-use Prim.Native.Nat.{ℕ, _+_, _*_, _-_, _/_, _%_, _≤_, _<_}
+use Prim.Native.Nat.{ℕ, _+_, _*_, _-_, _≤_, _<_}
 use native.Mathlib.Omega.{arith}
 use denote.Ref.{now}
 use lib.ListN.{length, take, drop, length-replicate}
 use lib.Seq.{length-take-le}
-use borrow.Author.Tests.{not-true, not-false}
+use borrow.Author.Tests.{not-true}
 use Rattle.fdfa.specs.Family.{Fdfa}
 use Rattle.search.specs.Paths.{Searchable}
 use Rattle.search.proofs.Phases.{Outer, Inner}
@@ -15,13 +14,12 @@ use Rattle.search.proofs.Lassos.{Ends, none-accepted, first-accepted}
 use Rattle.search.proofs.Work.{front-length}
 use Rattle.search.proofs.Places.{sized, resized, outer-begin, outer-skip, outer-part, outer-most, outer-in, start-room, start-same, inner-start, inner-most, inner-small, inner-room, inner-part, inner-asks, inner-found, more-length, inner-more, outer-more}
 use Rattle.inclusion.specs.declared.Outcome.the-variants.{Contained}
-use Rattle.inclusion.specs.Tables.{progressOf, Steps, Twin, twin}
+use Rattle.inclusion.specs.Tables.{Steps, twin}
 use Rattle.inclusion.specs.Search.{Right}
 use Rattle.inclusion.proofs.Twins.{twin-complete, lead-steps, some-width, some-pairs, few-pairs, first-half, second-half, pair-room, searchable}
 use Rattle.inclusion.proofs.Finding.{count-is, step-is, inverse-at, reads-at, some-at, few-at, all-few, root-few, steps-at, tabled-at, skipped, hit, missed}
-use borrow.Author.Needs.{needs}
-use Rattle.inclusion.proofs.find.Statement.{statement}
-use Rattle.inclusion.proofs.find.Tie as tie
+use Rattle.inclusion.proofs.searching.find.Statement.{statement}
+use Rattle.inclusion.proofs.searching.find.Tie as tie
 
 abbrev Inv-loop : tie.InvT-loop
 Inv-loop first second t n work₀ reached leads rows out₀ i q g root end total₀ h₀ work out total h =
