@@ -1,4 +1,4 @@
--- `boolean::write_marks` meets its contract. Assumes nothing.
+-- `boolean::writing::write_marks` meets its contract. Assumes nothing.
 use mathlib.Core.Path.{ap₂, _∙_}
 use mathlib.Core.Bool.{Bool}
 use Prim.Native.Nat.{_-_}
@@ -8,8 +8,8 @@ use Rattle.packed.specs.Layout.{mark}
 use Rattle.packed.proofs.Filling.{Filling, filling-none, filling-more, filling-all}
 use Rattle.boolean.specs.Operations.{opOf, pairMark, MarkReads}
 use borrow.Author.Needs.{needs}
-use Rattle.boolean.proofs.write_marks.Statement.{statement}
-use Rattle.boolean.proofs.write_marks.Tie as tie
+use Rattle.boolean.proofs.writing.write_marks.Statement.{statement}
+use Rattle.boolean.proofs.writing.write_marks.Tie as tie
 
 abbrev Inv-loop : tie.InvT-loop
 Inv-loop first second op count out₀ w f g x₀ out x =

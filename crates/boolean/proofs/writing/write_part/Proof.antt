@@ -1,4 +1,4 @@
--- `boolean::write_part` meets its contract: the table, then the marks. Assumes nothing.
+-- `boolean::writing::write_part` meets its contract: the table, then the marks. Assumes nothing.
 use native.Mathlib.Omega.{arith}
 use denote.Ref.{now}
 use Rattle.fdfa.proofs.Slices.{Begun, begun-first, begun-more}
@@ -7,8 +7,8 @@ use Rattle.packed.specs.Layout.{table}
 use Rattle.packed.proofs.Tabulated.{length-tab, length-table}
 use Rattle.boolean.specs.Operations.{pairNext, pairMark}
 use borrow.Author.Needs.{needs}
-use Rattle.boolean.proofs.write_part.Statement.{statement}
-use Rattle.boolean.proofs.write_part.Tie as tie
+use Rattle.boolean.proofs.writing.write_part.Statement.{statement}
+use Rattle.boolean.proofs.writing.write_part.Tie as tie
 
 abbrev start : tie.After-write-table → tie.Start
 start c = c .before .before .before .before .before

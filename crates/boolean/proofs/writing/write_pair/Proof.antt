@@ -1,4 +1,4 @@
--- `boolean::write_pair` meets its contract. Assumes nothing.
+-- `boolean::writing::write_pair` meets its contract. Assumes nothing.
 use mathlib.Core.Path.{ap, _∙_}
 use mathlib.Core.List.{List}
 use Prim.Native.Nat.{ℕ}
@@ -7,8 +7,8 @@ use denote.Ref.{now}
 use Rattle.fdfa.specs.Slices.{written}
 use Rattle.boolean.proofs.Pairing.{Sides, sides}
 use borrow.Author.Needs.{needs}
-use Rattle.boolean.proofs.write_pair.Statement.{statement}
-use Rattle.boolean.proofs.write_pair.Tie as tie
+use Rattle.boolean.proofs.writing.write_pair.Statement.{statement}
+use Rattle.boolean.proofs.writing.write_pair.Tie as tie
 
 abbrev start : tie.After-size2 → tie.Start
 start c = c .before .before .before .before .before .before .before

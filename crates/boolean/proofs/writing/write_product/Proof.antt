@@ -1,4 +1,4 @@
--- `boolean::write_product` meets its contract: the counts and the leading table, then the parts. Assumes nothing.
+-- `boolean::writing::write_product` meets its contract: the counts and the leading table, then the parts. Assumes nothing.
 use mathlib.Core.Path.{_≡_, sym, _∙_}
 use Prim.Native.Nat.{_+_, _*_, _-_, _≤_}
 use native.Mathlib.Omega.{arith}
@@ -10,8 +10,8 @@ use Rattle.packed.proofs.Bounds.{few-both}
 use Rattle.boolean.specs.Operations.{opOf, productFront, productParts}
 use Rattle.boolean.proofs.Extent.{product-first, front-length}
 use borrow.Author.Needs.{needs}
-use Rattle.boolean.proofs.write_product.Statement.{statement}
-use Rattle.boolean.proofs.write_product.Tie as tie
+use Rattle.boolean.proofs.writing.write_product.Statement.{statement}
+use Rattle.boolean.proofs.writing.write_product.Tie as tie
 
 abbrev start : tie.After-write-front-arg → tie.Start
 start c = c .before .before .before .before

@@ -1,4 +1,4 @@
--- `boolean::write_front` meets its contract: two counts, the sizes, the leading table. Assumes nothing.
+-- `boolean::writing::write_front` meets its contract: two counts, the sizes, the leading table. Assumes nothing.
 use mathlib.Core.Path.{_≡_, refl, ap, _∙_}
 use mathlib.Core.List.{List, [], _∷_, _++_}
 use Prim.Native.Nat.{ℕ, _+_, _*_, _-_, _≤_}
@@ -13,8 +13,8 @@ use Rattle.packed.proofs.Tabulated.{length-tab, length-table}
 use Rattle.boolean.specs.Operations.{pairNext, pairSize}
 use Rattle.boolean.proofs.Pairing.{sizes-read, lead-read, front-is}
 use borrow.Author.Needs.{needs}
-use Rattle.boolean.proofs.write_front.Statement.{statement}
-use Rattle.boolean.proofs.write_front.Tie as tie
+use Rattle.boolean.proofs.writing.write_front.Statement.{statement}
+use Rattle.boolean.proofs.writing.write_front.Tie as tie
 
 abbrev start : tie.After-byte2 → tie.Start
 start c = c .before .before .before .before .before

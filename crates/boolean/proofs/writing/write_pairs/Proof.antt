@@ -1,4 +1,4 @@
--- `boolean::write_pairs` meets its contract: part after part. Assumes nothing.
+-- `boolean::writing::write_pairs` meets its contract: part after part. Assumes nothing.
 use mathlib.Core.Path.{_≡_, refl, ap, sym, _∙_}
 use mathlib.Core.List.{List}
 use Prim.Native.Nat.{ℕ, _+_, _*_, _-_, _/_, _%_, _≤_, _<_}
@@ -16,8 +16,8 @@ use Rattle.packed.proofs.Filling.{rows-next}
 use Rattle.boolean.specs.declared.Operation.{Operation}
 use Rattle.boolean.specs.Operations.{opOf, pairPart}
 use borrow.Author.Needs.{needs}
-use Rattle.boolean.proofs.write_pairs.Statement.{statement}
-use Rattle.boolean.proofs.write_pairs.Tie as tie
+use Rattle.boolean.proofs.writing.write_pairs.Statement.{statement}
+use Rattle.boolean.proofs.writing.write_pairs.Tie as tie
 
 -- the part of the pair with the number x
 abbrev part : List ℕ → List ℕ → Operation → ℕ → List ℕ

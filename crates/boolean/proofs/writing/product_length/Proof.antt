@@ -1,4 +1,4 @@
--- `boolean::product_length` meets its contract. Assumes nothing.
+-- `boolean::writing::product_length` meets its contract. Assumes nothing.
 use mathlib.Core.Path.{_≡_, ap, _∙_}
 use Prim.Native.Nat.{_+_, _*_, _-_, _/_, _%_, _≤_}
 use native.Mathlib.Omega.{arith}
@@ -9,8 +9,8 @@ use Rattle.boolean.specs.Operations.{pairSize, productAt, SizeReads}
 use Rattle.boolean.proofs.Pairing.{sizes-read}
 use Rattle.boolean.proofs.Extent.{product-first, product-next, size-few, product-few}
 use borrow.Author.Needs.{needs}
-use Rattle.boolean.proofs.product_length.Statement.{statement}
-use Rattle.boolean.proofs.product_length.Tie as tie
+use Rattle.boolean.proofs.writing.product_length.Statement.{statement}
+use Rattle.boolean.proofs.writing.product_length.Tie as tie
 
 abbrev Inv-loop : tie.InvT-loop
 Inv-loop first second letters width count at₀ x₀ at x = (x ≤ count) × (at ≡ productAt first second x)

@@ -1,4 +1,4 @@
--- `boolean::write_table` meets its contract: row after row. Assumes nothing.
+-- `boolean::writing::write_table` meets its contract: row after row. Assumes nothing.
 use mathlib.Core.Path.{_≡_, ap, sym, _∙_}
 use mathlib.Core.List.{List}
 use Prim.Native.Nat.{ℕ, _+_, _*_, _-_, _≤_, _<_}
@@ -15,8 +15,8 @@ use Rattle.packed.proofs.Filling.{rows-begin, rows-next}
 use Rattle.boolean.specs.declared.Beside.{Beside}
 use Rattle.boolean.specs.Operations.{pairNext}
 use borrow.Author.Needs.{needs}
-use Rattle.boolean.proofs.write_table.Statement.{statement}
-use Rattle.boolean.proofs.write_table.Tie as tie
+use Rattle.boolean.proofs.writing.write_table.Statement.{statement}
+use Rattle.boolean.proofs.writing.write_table.Tie as tie
 
 abbrev Inv-loop : tie.InvT-loop
 Inv-loop first second t count out₀ s at₀ x₀ out at x = (x ≤ count) × (at ≡ x * s) × Begun (table x s (pairNext first second t)) out₀ out

@@ -1,4 +1,4 @@
--- `boolean::write_row` meets its contract. Assumes nothing.
+-- `boolean::writing::write_row` meets its contract. Assumes nothing.
 use mathlib.Core.Path.{_≡_, ap, ap₂, _∙_}
 use Prim.Native.Nat.{ℕ, _+_, _*_, _-_, _<_}
 use native.Mathlib.Omega.{arith}
@@ -6,8 +6,8 @@ use denote.Ref.{now}
 use Rattle.packed.proofs.Filling.{Filling, filling-none, filling-more, filling-all}
 use Rattle.boolean.specs.Operations.{pairNext}
 use borrow.Author.Needs.{needs}
-use Rattle.boolean.proofs.write_row.Statement.{statement}
-use Rattle.boolean.proofs.write_row.Tie as tie
+use Rattle.boolean.proofs.writing.write_row.Statement.{statement}
+use Rattle.boolean.proofs.writing.write_row.Tie as tie
 
 abbrev Inv-loop : tie.InvT-loop
 Inv-loop first second x out₀ s w f g p q a₀ out a =

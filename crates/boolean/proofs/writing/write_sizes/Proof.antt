@@ -1,4 +1,4 @@
--- `boolean::write_sizes` meets its contract. Assumes nothing.
+-- `boolean::writing::write_sizes` meets its contract. Assumes nothing.
 use mathlib.Core.Path.{_≡_, ap₂, _∙_}
 use Prim.Native.Nat.{ℕ, _*_, _-_}
 use native.Mathlib.Omega.{arith}
@@ -6,8 +6,8 @@ use denote.Ref.{now}
 use Rattle.packed.proofs.Filling.{Filling, filling-none, filling-more, filling-all}
 use Rattle.boolean.specs.Operations.{pairSize, SizeReads}
 use borrow.Author.Needs.{needs}
-use Rattle.boolean.proofs.write_sizes.Statement.{statement}
-use Rattle.boolean.proofs.write_sizes.Tie as tie
+use Rattle.boolean.proofs.writing.write_sizes.Statement.{statement}
+use Rattle.boolean.proofs.writing.write_sizes.Tie as tie
 
 abbrev Inv-loop : tie.InvT-loop
 Inv-loop first second width count out₀ x₀ out x = Filling count (pairSize first second width) out₀ out x
