@@ -5,15 +5,15 @@ use crate::naive_text;
 use crate::naive_verdict;
 use crate::naive_writer;
 use crate::says::ACCEPTED;
-use crate::says::FILLED;
 use crate::says::REJECTED;
 use crate::says::Says;
 use crate::says::VALID;
 use crate::says::filled;
 use crate::says::gives;
-use crate::says::no;
 use crate::says::refused;
+use crate::total::at;
 use crate::total::front;
+use crate::total::front_mut;
 use boolean::Written;
 use fdfa::Part;
 use membership::Judgement;
@@ -35,8 +35,9 @@ pub fn outcome(library: Says, checker: Says, cells: bool) -> Ran {
     }
 }
 
-fn same_bytes(x: &[u8; 2048], y: &[u8; 2048]) -> bool {
-    check::same(x, y)
+// Whether the result is the checker's, and begins with what the row gives.
+fn is_right(out: &[u8; 2048], due: &[u8; 2048], given: &[u8]) -> bool {
+    check::same(out, due) && check::same(front(out, given.len()), given)
 }
 
 pub fn check(b: &[u8]) -> Ran {
@@ -56,7 +57,7 @@ fn judged(accepted: bool, i: usize, j: usize, place: usize, end: usize) -> Says 
     }
 }
 
-pub fn verdict(b: &[u8], u: &[u8], v: &[u8]) -> Ran {
+fn verdict(b: &[u8], u: &[u8], v: &[u8]) -> Ran {
     let answer = membership::verdict(b, u, v);
     let library = match answer {
         Judgement::Given {
@@ -85,119 +86,63 @@ fn reading(w: Reading) -> Says {
     }
 }
 
-fn complement_in(b: &[u8], out: &mut [u8], room: usize) -> Says {
-    if out.len() < room {
-        return no(0, 0, 0);
-    }
-    written(boolean::complement(b, &mut out[0..room]))
-}
-
-pub fn complement(b: &[u8], room: usize) -> Ran {
+pub fn complement(b: &[u8], given: &[u8], room: usize) -> Ran {
     let mut out = [170u8; 2048];
     let mut due = [170u8; 2048];
-    let library = complement_in(b, &mut out, room);
+    let library = written(boolean::complement(b, front_mut(&mut out, room)));
     let checker = naive_product::complement(b, &mut due, room);
-    outcome(library, checker, same_bytes(&out, &due))
+    outcome(library, checker, is_right(&out, &due, given))
 }
 
-// The complement, and that it is the one given.
-pub fn complement_is(b: &[u8], due: &[u8], room: usize) -> Ran {
-    let r = complement(b, room);
-    let library = r.library;
-    let checker = r.checker;
-    let mut out = [0u8; 64];
-    let n = complement_in(b, &mut out, 64).a;
-    outcome(
-        library,
-        checker,
-        r.cells && check::same(front(&out, n), due),
-    )
-}
-
-fn intersection_in(a: &[u8], b: &[u8], out: &mut [u8], room: usize) -> Says {
-    if out.len() < room {
-        return no(0, 0, 0);
+fn product_in(a: &[u8], b: &[u8], both: bool, out: &mut [u8]) -> Says {
+    if both {
+        return written(boolean::intersection(a, b, out));
     }
-    written(boolean::intersection(a, b, &mut out[0..room]))
+    written(boolean::union(a, b, out))
 }
 
-pub fn intersection(a: &[u8], b: &[u8], room: usize) -> Ran {
+// The intersection, or the union where not `both`.
+pub fn product(a: &[u8], b: &[u8], both: bool, room: usize) -> Ran {
     let mut out = [170u8; 2048];
     let mut due = [170u8; 2048];
-    let library = intersection_in(a, b, &mut out, room);
-    let checker = naive_product::product(a, b, true, &mut due, room);
-    outcome(library, checker, same_bytes(&out, &due))
+    let library = product_in(a, b, both, front_mut(&mut out, room));
+    let checker = naive_product::product(a, b, both, &mut due, room);
+    outcome(library, checker, is_right(&out, &due, b""))
 }
 
-// The library's intersection in out; its length, or 0.
-pub fn fill_intersection(a: &[u8], b: &[u8], out: &mut [u8; 512]) -> usize {
-    let x = intersection_in(a, b, out, 512);
-    if x.kind == FILLED { x.a } else { 0 }
-}
-
-fn union_in(a: &[u8], b: &[u8], out: &mut [u8], room: usize) -> Says {
-    if out.len() < room {
-        return no(0, 0, 0);
+// The verdict on the first sheet; or, where there is a second, on the library's intersection of the two.
+pub fn verdict_of(a: &[u8], b: &[u8], u: &[u8], v: &[u8]) -> Ran {
+    if b.len() == 0 {
+        return verdict(a, u, v);
     }
-    written(boolean::union(a, b, &mut out[0..room]))
+    let mut out = [0u8; 512];
+    let n = product_in(a, b, true, &mut out).a;
+    verdict(front(&out, n), u, v)
 }
 
-pub fn union(a: &[u8], b: &[u8], room: usize) -> Ran {
+pub fn write(b: &[u8], given: &[u8], room: usize) -> Ran {
     let mut out = [170u8; 2048];
     let mut due = [170u8; 2048];
-    let library = union_in(a, b, &mut out, room);
-    let checker = naive_product::product(a, b, false, &mut due, room);
-    outcome(library, checker, same_bytes(&out, &due))
-}
-
-fn write_in(b: &[u8], out: &mut [u8], room: usize) -> Says {
-    if out.len() < room {
-        return no(0, 0, 0);
-    }
-    reading(notation::write(b, &mut out[0..room]))
-}
-
-pub fn write(b: &[u8], room: usize) -> Ran {
-    let mut out = [170u8; 2048];
-    let mut due = [170u8; 2048];
-    let library = write_in(b, &mut out, room);
+    let library = reading(notation::write(b, front_mut(&mut out, room)));
     let checker = naive_writer::write(b, &mut due, room);
-    outcome(library, checker, same_bytes(&out, &due))
-}
-
-fn read_in(t: &[u8], out: &mut [u8], room: usize) -> Says {
-    if out.len() < room {
-        return no(0, 0, 0);
-    }
-    reading(notation::read(t, &mut out[0..room]))
+    outcome(library, checker, is_right(&out, &due, given))
 }
 
 // The text has to give `sheet` where it is good.
-pub fn read(t: &[u8], sheet: &[u8], room: usize) -> Ran {
+fn read(t: &[u8], sheet: &[u8], room: usize) -> Ran {
     let mut out = [170u8; 2048];
     let mut due = [170u8; 2048];
-    let library = read_in(t, &mut out, room);
+    let library = reading(notation::read(t, front_mut(&mut out, room)));
     let checker = naive_text::read(t, sheet, &mut due, room);
-    outcome(library, checker, same_bytes(&out, &due))
+    outcome(library, checker, is_right(&out, &due, b""))
 }
 
-// Writing, and that the text is the one given.
-pub fn write_is(b: &[u8], due: &[u8], room: usize) -> Ran {
-    let r = write(b, room);
-    let library = r.library;
-    let checker = r.checker;
-    let mut out = [0u8; 256];
-    let n = write_in(b, &mut out, 256).a;
-    outcome(
-        library,
-        checker,
-        r.cells && check::same(front(&out, n), due),
-    )
-}
-
-// Reading of the text that the checker writes.
-pub fn read_back(b: &[u8], room: usize) -> Ran {
+// Reading of the text; `=` stands for the one that the checker writes.
+pub fn reading_of(t: &[u8], sheet: &[u8], room: usize) -> Ran {
+    if at(t, 0) != 61 {
+        return read(t, sheet, room);
+    }
     let mut text = [0u8; 2048];
-    let n = naive_writer::put_text(b, &mut text);
-    read(front(&text, n), b, room)
+    let n = naive_writer::put_text(sheet, &mut text);
+    read(front(&text, n), sheet, room)
 }

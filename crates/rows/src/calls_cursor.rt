@@ -6,6 +6,7 @@ use crate::says::LOOP;
 use crate::says::OPENING;
 use crate::says::PASSED;
 use crate::says::REST;
+use crate::says::Says;
 use crate::says::gives;
 use crate::says::refused;
 use crate::total::at;
@@ -40,14 +41,25 @@ fn is_back(c: Cursor, part: usize, pos: usize) -> bool {
     part_of(c) == part && c.at == pos
 }
 
-pub fn step(part: usize, pos: usize, u: &[u8], v: &[u8]) -> Ran {
-    let checker = naive_cursor::step(part, pos, u, v);
-    let c = cursor_at(part, pos);
-    let moved = c.step(u, v);
-    match moved {
-        Step::Passed(x, d) => outcome(gives(PASSED, wide(x), part_of(d), d.at, 0), checker, true),
-        Step::Refused(r, d) => outcome(refused(r), checker, is_back(d, part, pos)),
+fn stepped(s: Step) -> Says {
+    match s {
+        Step::Passed(x, d) => gives(PASSED, wide(x), part_of(d), d.at, 0),
+        Step::Refused(r, _) => refused(r),
     }
+}
+
+// Whether a refused cursor came back as it was.
+fn is_kept(s: Step, part: usize, pos: usize) -> bool {
+    match s {
+        Step::Passed(_, _) => true,
+        Step::Refused(_, d) => is_back(d, part, pos),
+    }
+}
+
+pub fn step(part: usize, pos: usize, u: &[u8], v: &[u8]) -> Ran {
+    let moved = cursor_at(part, pos).step(u, v);
+    let checker = naive_cursor::step(part, pos, u, v);
+    outcome(stepped(moved), checker, is_kept(moved, part, pos))
 }
 
 pub fn start(u: &[u8]) -> Ran {

@@ -7,9 +7,11 @@ use crate::says::ABSENT;
 use crate::says::FOUND;
 use crate::says::Says;
 use crate::says::gives;
-use crate::says::no;
 use crate::says::refused;
 use crate::total::at;
+use crate::total::cells_mut;
+use crate::total::front;
+use crate::total::front_mut;
 use inclusion::Answer;
 
 fn compared(x: Answer) -> Says {
@@ -20,58 +22,15 @@ fn compared(x: Answer) -> Says {
     }
 }
 
-fn emptiness_in(a: &[u8], rooms: Lent, u: &mut [u8], v: &mut [u8], work: &mut [u64]) -> Says {
-    let i = rooms.opening;
-    let j = rooms.turn;
-    let k = rooms.work;
-    if u.len() < i {
-        return no(0, 0, 0);
-    }
-    if v.len() < j {
-        return no(0, 0, 0);
-    }
-    if work.len() < k {
-        return no(0, 0, 0);
-    }
-    compared(inclusion::emptiness(a, &mut u[0..i], &mut v[0..j], &mut work[0..k]))
+fn emptiness_in(a: &[u8], u: &mut [u8], v: &mut [u8], work: &mut [u64]) -> Says {
+    compared(inclusion::emptiness(a, u, v, work))
 }
 
-fn compare_in(
-    a: &[u8],
-    b: &[u8],
-    rooms: Lent,
-    u: &mut [u8],
-    v: &mut [u8],
-    work: &mut [u64],
-) -> Says {
-    let i = rooms.opening;
-    let j = rooms.turn;
-    let k = rooms.work;
-    if u.len() < i {
-        return no(0, 0, 0);
-    }
-    if v.len() < j {
-        return no(0, 0, 0);
-    }
-    if work.len() < k {
-        return no(0, 0, 0);
-    }
-    compared(inclusion::compare(a, b, &mut u[0..i], &mut v[0..j], &mut work[0..k]))
-}
-
-fn search(
-    a: &[u8],
-    b: &[u8],
-    lone: bool,
-    rooms: Lent,
-    u: &mut [u8],
-    v: &mut [u8],
-    work: &mut [u64],
-) -> Says {
+fn search(a: &[u8], b: &[u8], lone: bool, u: &mut [u8], v: &mut [u8], work: &mut [u64]) -> Says {
     if lone {
-        return emptiness_in(a, rooms, u, v, work);
+        return emptiness_in(a, u, v, work);
     }
-    compare_in(a, b, rooms, u, v, work)
+    compared(inclusion::compare(a, b, u, v, work))
 }
 
 // How many work cells are 0 after the call: all that it needs, unless it was refused before the search.
@@ -117,49 +76,47 @@ fn is_show(library: Says, s: &[u8], w: &[u8], n: usize, x: &[u8]) -> bool {
     begins_with(s, w, 0)
 }
 
-// Whether the three slices are as 01 says.
-fn are_right(
+// The checker beside what the library said and left.
+fn judged(
+    a: &[u8],
+    b: &[u8],
+    rooms: Lent,
     library: Says,
-    checker: Says,
-    needed: usize,
-    opening: &[u8; 64],
-    turn: &[u8; 64],
-    work: &[u64; 128],
-    u: &[u8; 64],
-    v: &[u8; 64],
+    opening: &[u8],
+    turn: &[u8],
     x: &[u8],
     y: &[u8],
-) -> bool {
-    if !are_cleared(work, cleared(checker, needed)) {
-        return false;
-    }
-    if !is_show(library, opening, u, checker.b, x) {
-        return false;
-    }
-    is_show(library, turn, v, checker.c, y)
+) -> Ran {
+    let mut u = [0u8; 64];
+    let mut v = [0u8; 64];
+    let checker = naive_compare::compare(a, b, rooms, &mut u, &mut v);
+    let cells = is_show(library, opening, &u, checker.b, x)
+        && is_show(library, turn, &v, checker.c, y);
+    outcome(library, checker, cells)
 }
 
-// Comparison, or emptiness of the first where `lone`. (x, y) is the show that the row gives, where it gives one.
+// Comparison, or emptiness of the first where `lone`, when the second accepts nothing. (x, y) is the show that the row
+// gives, where it gives one.
 pub fn compare(a: &[u8], b: &[u8], lone: bool, rooms: Lent, x: &[u8], y: &[u8]) -> Ran {
     let mut opening = [170u8; 64];
     let mut turn = [170u8; 64];
     let mut work = [77u64; 128];
-    let mut u = [0u8; 64];
-    let mut v = [0u8; 64];
-    let library = search(a, b, lone, rooms, &mut opening, &mut turn, &mut work);
-    let checker = naive_compare::compare(a, b, lone, rooms, &mut u, &mut v);
-    let needed = naive_compare::cells(a, b, lone);
-    let cells = are_right(
-        library,
-        checker,
-        needed,
-        &opening,
-        &turn,
-        &work,
-        &u,
-        &v,
-        x,
-        y,
+    let library = search(
+        a,
+        b,
+        lone,
+        front_mut(&mut opening, rooms.opening),
+        front_mut(&mut turn, rooms.turn),
+        cells_mut(&mut work, rooms.work),
     );
+    let r = judged(a, b, rooms, library, &opening, &turn, x, y);
+    let checker = r.checker;
+    let cells = r.cells && are_cleared(&work, cleared(checker, naive_compare::cells(a, b)));
     outcome(library, checker, cells)
+}
+
+pub fn emptiness(a: &[u8], rooms: Lent, x: &[u8], y: &[u8]) -> Ran {
+    let mut nothing = [0u8; 512];
+    let n = naive_compare::put_nothing(a, &mut nothing);
+    compare(a, front(&nothing, n), true, rooms, x, y)
 }

@@ -1,5 +1,5 @@
-// Comparison and emptiness by writing out every opening and every loop in 01's order, up to the lengths that 01 gives.
-// Emptiness has `lone` true, and its second sheet is not looked at.
+// Comparison by writing out every opening and every loop in 01's order, up to the lengths that 01 gives, on the sheet of
+// pairs that accepts what the first accepts and the second rejects. Emptiness is comparison with a sheet that accepts nothing.
 use crate::naive_product;
 use crate::naive_sheet;
 use crate::naive_verdict;
@@ -8,7 +8,6 @@ use crate::says::ACCEPTED;
 use crate::says::FOUND;
 use crate::says::LOOP;
 use crate::says::OPENING;
-use crate::says::REJECTED;
 use crate::says::Says;
 use crate::says::VALID;
 use crate::says::WORK;
@@ -49,8 +48,8 @@ fn following(w: &mut [u8], n: usize, s: usize) -> usize {
     let mut m = n;
     while 0 < m {
         m -= 1;
-        if add(at(w, m), 1) < s {
-            let x = add(at(w, m), 1);
+        let x = add(at(w, m), 1);
+        if x < s {
             put(w, m, x);
             return n;
         }
@@ -60,30 +59,19 @@ fn following(w: &mut [u8], n: usize, s: usize) -> usize {
     add(n, 1)
 }
 
-// Whether the show closes, and its verdict is the kind given.
-fn closes_with(b: &[u8], u: &[u8], v: &[u8], kind: usize) -> bool {
+// Whether the show closes, and is accepted.
+fn is_counter(b: &[u8], u: &[u8], v: &[u8]) -> bool {
     let x = naive_verdict::decide(b, u, v);
-    x.kind == kind && x.a == 0 && x.b == 1
-}
-
-fn is_counter(a: &[u8], b: &[u8], lone: bool, u: &[u8], v: &[u8]) -> bool {
-    if !closes_with(a, u, v, ACCEPTED) {
-        return false;
-    }
-    if lone {
-        return true;
-    }
-    closes_with(b, u, v, REJECTED)
+    x.kind == ACCEPTED && x.a == 0 && x.b == 1
 }
 
 // The length of the first loop that makes a counter-show with u, left in v; 0 where there is none.
-fn first_loop(a: &[u8], b: &[u8], lone: bool, u: &[u8], v: &mut [u8], most: usize) -> usize {
-    let s = naive_sheet::scenes(a);
-    let count = words(s, most);
+fn first_loop(b: &[u8], u: &[u8], v: &mut [u8], count: usize) -> usize {
+    let s = naive_sheet::scenes(b);
     let mut n = following(v, 0, s);
     let mut x = 0;
     while x < count {
-        if is_counter(a, b, lone, u, front(v, n)) {
+        if is_counter(b, u, front(v, n)) {
             return n;
         }
         n = following(v, n, s);
@@ -92,113 +80,64 @@ fn first_loop(a: &[u8], b: &[u8], lone: bool, u: &[u8], v: &mut [u8], most: usiz
     0
 }
 
-// The lengths of the first counter-show, and whether there is one.
-pub struct Show {
-    pub opening: usize,
-    pub turn: usize,
-    pub is_there: bool,
+// The longest loop that 01 asks for: as many scenes as pairs with their places in loop automata.
+fn longest(b: &[u8]) -> usize {
+    let n = naive_sheet::places(b);
+    mul(n, naive_sheet::widest(b, n))
 }
 
-// The first counter-show, left in u and v.
-fn first_show(
-    a: &[u8],
-    b: &[u8],
-    lone: bool,
-    n: usize,
-    most: usize,
-    u: &mut [u8],
-    v: &mut [u8],
-) -> Show {
-    let s = naive_sheet::scenes(a);
-    let count = add(1, words(s, sub(n, 1)));
-    let mut len = 0;
+// The first counter-show, left in u and v: 1,000 times the opening's length and the loop's, or 0 where there is none.
+fn first_show(b: &[u8], u: &mut [u8], v: &mut [u8]) -> usize {
+    let s = naive_sheet::scenes(b);
+    let loops = words(s, longest(b));
+    let count = add(1, words(s, sub(naive_sheet::places(b), 1)));
+    let mut n = 0;
     let mut x = 0;
     while x < count {
-        let turn = first_loop(a, b, lone, front(u, len), v, most);
+        let turn = first_loop(b, front(u, n), v, loops);
         if turn != 0 {
-            return Show {
-                opening: len,
-                turn,
-                is_there: true,
-            };
+            return add(mul(n, 1000), turn);
         }
-        len = following(u, len, s);
+        n = following(u, n, s);
         x += 1;
     }
-    Show {
-        opening: 0,
-        turn: 0,
-        is_there: false,
-    }
-}
-
-// The pair after r by the scene c.
-fn pair_next(a: &[u8], b: &[u8], lone: bool, r: usize, c: usize) -> usize {
-    if lone {
-        return naive_sheet::lead_next(a, r, c);
-    }
-    let n2 = naive_sheet::places(b);
-    add(
-        mul(naive_sheet::lead_next(a, div(r, n2), c), n2),
-        naive_sheet::lead_next(b, rem(r, n2), c),
-    )
+    0
 }
 
 // Marks what the scene c leads to from r, where r is marked.
-fn mark_next(a: &[u8], b: &[u8], lone: bool, r: usize, c: usize, flags: &mut [u8]) {
-    if at(flags, r) != 1 {
-        return;
+fn mark_next(b: &[u8], r: usize, c: usize, flags: &mut [u8]) {
+    if at(flags, r) == 1 {
+        put(flags, naive_sheet::lead_next(b, r, c), 1);
     }
-    put(flags, pair_next(a, b, lone, r, c), 1);
 }
 
-// N rounds over all pairs and scenes, each of which marks what it reaches; then the marks are counted.
-fn reached(a: &[u8], b: &[u8], lone: bool, n: usize, flags: &mut [u8]) -> usize {
-    let s = naive_sheet::scenes(a);
+// As many rounds over all places and scenes as there are places, each of which marks what it reaches.
+fn mark_reached(b: &[u8], flags: &mut [u8]) {
+    let s = naive_sheet::scenes(b);
+    let n = naive_sheet::places(b);
     let count = mul(mul(n, n), s);
     put(flags, 0, 1);
     let mut x = 0;
     while x < count {
-        mark_next(a, b, lone, rem(div(x, s), n), rem(x, s), flags);
+        mark_next(b, rem(div(x, s), n), rem(x, s), flags);
         x += 1;
     }
-    count_marked(flags, n)
 }
 
-fn count_marked(flags: &[u8], n: usize) -> usize {
+fn count_marked(flags: &[u8]) -> usize {
     let mut sum = 0;
     let mut i = 0;
-    while i < n {
+    while i < flags.len() {
         sum = add(sum, at(flags, i));
         i += 1;
     }
     sum
 }
 
-// The cells that the call needs.
-pub fn cells(a: &[u8], b: &[u8], lone: bool) -> usize {
-    if lone {
-        let n = naive_sheet::places(a);
-        return add(n, mul(n, naive_sheet::widest(a, n)));
-    }
-    let n = naive_product::lead_pairs(a, b);
-    add(n, mul(n, naive_product::most_loop_pairs(a, b)))
-}
-
-fn lead_count(a: &[u8], b: &[u8], lone: bool) -> usize {
-    if lone {
-        naive_sheet::places(a)
-    } else {
-        naive_product::lead_pairs(a, b)
-    }
-}
-
-fn judge(a: &[u8], b: &[u8], lone: bool) -> Says {
-    if lone {
-        naive_sheet::judge(a, 0)
-    } else {
-        naive_sheet::judge_two(a, b)
-    }
+fn reached(b: &[u8]) -> usize {
+    let mut flags = [0u8; 64];
+    mark_reached(b, &mut flags);
+    count_marked(&flags)
 }
 
 // How much the caller lends.
@@ -208,32 +147,61 @@ pub struct Lent {
     pub work: usize,
 }
 
+// What the call says of a show, as first_show gives it, where R places are reached.
+fn shown(show: usize, r: usize, rooms: Lent) -> Says {
+    let i = div(show, 1000);
+    let j = rem(show, 1000);
+    if show == 0 {
+        return gives(ABSENT, r, 0, 0, 0);
+    }
+    if rooms.opening < i {
+        return no(23, OPENING, i);
+    }
+    if rooms.turn < j {
+        return no(23, LOOP, j);
+    }
+    gives(FOUND, r, i, j, 0)
+}
+
+fn search(b: &[u8], rooms: Lent, u: &mut [u8], v: &mut [u8]) -> Says {
+    if !is_small(naive_sheet::scenes(b), longest(b)) {
+        return no(0, 0, 0);
+    }
+    shown(first_show(b, u, v), reached(b), rooms)
+}
+
+// The sheet of pairs that accepts what the first accepts and the second rejects, into out; its length.
+fn difference(a: &[u8], b: &[u8], out: &mut [u8]) -> usize {
+    let mut turned = [0u8; 512];
+    naive_product::complement(b, &mut turned, 512);
+    naive_product::product(a, front(&turned, b.len()), true, out, 512).a
+}
+
+// A sheet with the scenes of b that accepts nothing, into out, which is zeros; its length.
+pub fn put_nothing(b: &[u8], out: &mut [u8]) -> usize {
+    let s = naive_sheet::scenes(b);
+    put(out, 0, s);
+    put(out, 1, 1);
+    put(out, 2, 1);
+    add(4, add(s, s))
+}
+
+// The cells that the call needs.
+pub fn cells(a: &[u8], b: &[u8]) -> usize {
+    let n = naive_product::lead_pairs(a, b);
+    add(n, mul(n, naive_product::most_loop_pairs(a, b)))
+}
+
 // What the call says; the first counter-show is left in u and v.
-pub fn compare(a: &[u8], b: &[u8], lone: bool, rooms: Lent, u: &mut [u8], v: &mut [u8]) -> Says {
-    let two = judge(a, b, lone);
+pub fn compare(a: &[u8], b: &[u8], rooms: Lent, u: &mut [u8], v: &mut [u8]) -> Says {
+    let two = naive_sheet::judge_two(a, b);
     if two.kind != VALID {
         return two;
     }
-    let needed = cells(a, b, lone);
-    if rooms.work < needed {
-        return no(22, WORK, needed);
+    if rooms.work < cells(a, b) {
+        return no(22, WORK, cells(a, b));
     }
-    let n = lead_count(a, b, lone);
-    let mut flags = [0u8; 64];
-    let r = reached(a, b, lone, n, &mut flags);
-    let most = sub(needed, n);
-    if !is_small(naive_sheet::scenes(a), most) {
-        return no(0, 0, 0);
-    }
-    let show = first_show(a, b, lone, n, most, u, v);
-    if !show.is_there {
-        return gives(ABSENT, r, 0, 0, 0);
-    }
-    if rooms.opening < show.opening {
-        return no(23, OPENING, show.opening);
-    }
-    if rooms.turn < show.turn {
-        return no(23, LOOP, show.turn);
-    }
-    gives(FOUND, r, show.opening, show.turn, 0)
+    let mut pairs = [0u8; 512];
+    let n = difference(a, b, &mut pairs);
+    search(front(&pairs, n), rooms, u, v)
 }

@@ -8,11 +8,26 @@ use crate::says::gives;
 use crate::says::no;
 use crate::total::add;
 use crate::total::at;
-use crate::total::paste;
+use crate::total::rem;
 use crate::total::sub;
 
 pub fn length(part: usize, u: &[u8], v: &[u8]) -> usize {
     if part == OPENING { u.len() } else { v.len() }
+}
+
+// The step from a place of opening and loop laid end to end.
+fn pass(place: usize, u: &[u8], v: &[u8]) -> Says {
+    let n = u.len();
+    let x = if place < n {
+        at(u, place)
+    } else {
+        at(v, sub(place, n))
+    };
+    let next = add(place, 1);
+    if next < n {
+        return gives(PASSED, x, OPENING, next, 0);
+    }
+    gives(PASSED, x, LOOP, rem(sub(next, n), v.len()), 0)
 }
 
 // What a step says, from a position of the part (OPENING or LOOP).
@@ -23,23 +38,8 @@ pub fn step(part: usize, pos: usize, u: &[u8], v: &[u8]) -> Says {
     if length(part, u, v) <= pos {
         return no(24, CURSOR, pos);
     }
-    let mut whole = [0u8; 64];
-    paste(&mut whole, 0, u);
-    let end = paste(&mut whole, u.len(), v);
-    let place = if part == OPENING {
-        pos
-    } else {
-        add(u.len(), pos)
-    };
-    let next = add(place, 1);
-    if next == end {
-        return gives(PASSED, at(&whole, place), LOOP, 0, 0);
-    }
-    if next < u.len() {
-        gives(PASSED, at(&whole, place), OPENING, next, 0)
-    } else {
-        gives(PASSED, at(&whole, place), LOOP, sub(next, u.len()), 0)
-    }
+    let from = if part == OPENING { 0 } else { u.len() };
+    pass(add(from, pos), u, v)
 }
 
 // The length of what is left of the part; 0 where a step would be refused.

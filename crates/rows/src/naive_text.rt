@@ -98,30 +98,49 @@ fn number(t: &[u8], p: Pen, low: usize, limit: usize, fault: usize) -> Pen {
     }
 }
 
-// ` s0 s1 ..` and the line feed.
+// Over the byte x.
+fn byte(t: &[u8], p: Pen, x: usize) -> Pen {
+    if p.fault != 0 {
+        return p;
+    }
+    if at(t, p.at) != x {
+        return faulty(p, 11);
+    }
+    Pen {
+        at: add(p.at, 1),
+        fault: 0,
+        value: p.value,
+    }
+}
+
+// Over a number and the byte that ends it.
+fn item(t: &[u8], p: Pen, low: usize, limit: usize, fault: usize, end: usize) -> Pen {
+    byte(t, number(t, p, low, limit, fault), end)
+}
+
+// `s0 s1 ..` and the line feed.
 fn names(t: &[u8], pen: Pen, s: usize) -> Pen {
     let mut line = [0u8; 256];
     let n = put_names(&mut line, 0, s);
     literal(t, pen, front(&line, n))
 }
 
-// A space and a number below `limit`, `count` times; then the line feed.
+// Over `count` numbers below `limit`, with spaces between them and the line feed at the end.
 fn nexts(t: &[u8], pen: Pen, count: usize, limit: usize) -> Pen {
     let mut p = pen;
     let mut i = 0;
     while i < count {
-        p = literal(t, p, b" ");
-        p = number(t, p, 0, limit, 5);
+        let end = if add(i, 1) == count { 10 } else { 32 };
+        p = item(t, p, 0, limit, 5, end);
         i += 1;
     }
-    literal(t, p, b"\n")
+    p
 }
 
 // A row of the second block; its k(q) goes into `sizes`.
 fn leading_row(t: &[u8], pen: Pen, s: usize, n: usize, q: usize, sizes: &mut [u8]) -> Pen {
-    let mut p = number(t, pen, q, add(q, 1), 12);
-    p = literal(t, p, b" ");
-    p = number(t, p, 1, 33, 4);
+    let mut p = item(t, pen, q, add(q, 1), 12, 32);
+    p = item(t, p, 1, 33, 4, 32);
     put(sizes, q, p.value);
     nexts(t, p, s, n)
 }
@@ -138,11 +157,9 @@ fn leading_rows(t: &[u8], pen: Pen, s: usize, n: usize, sizes: &mut [u8]) -> Pen
 
 // A row of the third block.
 fn loop_row(t: &[u8], pen: Pen, s: usize, q: usize, k: usize, x: usize) -> Pen {
-    let mut p = number(t, pen, q, add(q, 1), 12);
-    p = literal(t, p, b" ");
-    p = number(t, p, x, add(x, 1), 12);
-    p = literal(t, p, b" ");
-    p = number(t, p, 0, 2, 6);
+    let mut p = item(t, pen, q, add(q, 1), 12, 32);
+    p = item(t, p, x, add(x, 1), 12, 32);
+    p = item(t, p, 0, 2, 6, 32);
     nexts(t, p, s, k)
 }
 
@@ -169,10 +186,10 @@ fn third_block(t: &[u8], pen: Pen, s: usize, n: usize, sizes: &[u8]) -> Pen {
 // The second and the third block.
 fn blocks(t: &[u8], pen: Pen, s: usize, n: usize) -> Pen {
     let mut sizes = [0u8; 32];
-    let mut p = literal(t, pen, b"\nplace loops");
+    let mut p = literal(t, pen, b"place loops ");
     p = names(t, p, s);
     p = leading_rows(t, p, s, n, &mut sizes);
-    p = literal(t, p, b"place loop mark");
+    p = literal(t, p, b"place loop mark ");
     p = names(t, p, s);
     third_block(t, p, s, n, &sizes)
 }
@@ -185,12 +202,10 @@ pub fn judge(t: &[u8]) -> Says {
         value: 0,
     };
     let mut p = literal(t, start, b"level scenes places\n");
-    p = number(t, p, 3, 4, 10);
-    p = literal(t, p, b" ");
-    p = number(t, p, 1, 33, 2);
+    p = item(t, p, 3, 4, 10, 32);
+    p = item(t, p, 1, 33, 2, 32);
     let s = p.value;
-    p = literal(t, p, b" ");
-    p = number(t, p, 1, 33, 3);
+    p = item(t, p, 1, 33, 3, 10);
     let n = p.value;
     p = blocks(t, p, s, n);
     if p.fault != 0 {

@@ -10,6 +10,7 @@ use crate::total::at;
 use crate::total::mul;
 use crate::total::paste;
 use crate::total::put;
+use crate::total::sub;
 
 // A digit where `on`; the place after it.
 fn put_digit(out: &mut [u8], to: usize, x: usize, on: bool) -> usize {
@@ -20,46 +21,52 @@ fn put_digit(out: &mut [u8], to: usize, x: usize, on: bool) -> usize {
     to
 }
 
-// A number of at most three digits; the place after it.
-fn put_number(out: &mut [u8], to: usize, x: usize) -> usize {
+// A number of at most three digits, and the byte that ends it; the place after them.
+fn put_number(out: &mut [u8], to: usize, x: usize, end: usize) -> usize {
     let hundreds = put_digit(out, to, x / 100, 100 <= x);
     let tens = put_digit(out, hundreds, x / 10, 10 <= x);
-    put_digit(out, tens, x, true)
+    let next = put_digit(out, tens, x, true);
+    put(out, next, end);
+    add(next, 1)
 }
 
-// ` s0 s1 ..` and the line feed.
+// `s0 s1 ..`, and a line feed for the last space.
 pub fn put_names(out: &mut [u8], to: usize, s: usize) -> usize {
     let mut next = to;
     let mut c = 0;
     while c < s {
-        next = paste(out, next, b" s");
-        next = put_number(out, next, c);
+        put(out, next, 115);
+        next = put_number(out, add(next, 1), c, 32);
         c += 1;
     }
-    paste(out, next, b"\n")
+    put(out, sub(next, 1), 10);
+    next
 }
 
-// A space and a number, for each of the bytes from `from` on; then the line feed.
+// The bytes from `from` on, and a line feed for the last space.
 fn put_bytes(b: &[u8], from: usize, count: usize, out: &mut [u8], to: usize) -> usize {
     let mut next = to;
     let mut i = 0;
     while i < count {
-        next = paste(out, next, b" ");
-        next = put_number(out, next, at(b, add(from, i)));
+        next = put_number(out, next, at(b, add(from, i)), 32);
         i += 1;
     }
-    paste(out, next, b"\n")
+    put(out, sub(next, 1), 10);
+    next
+}
+
+fn put_leading_row(b: &[u8], q: usize, out: &mut [u8], to: usize) -> usize {
+    let s = naive_sheet::scenes(b);
+    let mut next = put_number(out, to, q, 32);
+    next = put_number(out, next, naive_sheet::loops(b, q), 32);
+    put_bytes(b, add(naive_sheet::leading(b), mul(q, s)), s, out, next)
 }
 
 fn put_leading(b: &[u8], out: &mut [u8], to: usize, n: usize) -> usize {
-    let s = naive_sheet::scenes(b);
     let mut next = to;
     let mut q = 0;
     while q < n {
-        next = put_number(out, next, q);
-        next = paste(out, next, b" ");
-        next = put_number(out, next, naive_sheet::loops(b, q));
-        next = put_bytes(b, add(naive_sheet::leading(b), mul(q, s)), s, out, next);
+        next = put_leading_row(b, q, out, next);
         q += 1;
     }
     next
@@ -67,11 +74,9 @@ fn put_leading(b: &[u8], out: &mut [u8], to: usize, n: usize) -> usize {
 
 fn put_loop_row(b: &[u8], q: usize, x: usize, out: &mut [u8], to: usize) -> usize {
     let s = naive_sheet::scenes(b);
-    let mut next = put_number(out, to, q);
-    next = paste(out, next, b" ");
-    next = put_number(out, next, x);
-    next = paste(out, next, b" ");
-    next = put_number(out, next, naive_sheet::mark(b, q, x));
+    let mut next = put_number(out, to, q, 32);
+    next = put_number(out, next, x, 32);
+    next = put_number(out, next, naive_sheet::mark(b, q, x), 32);
     put_bytes(b, add(naive_sheet::begins(b, q), mul(x, s)), s, out, next)
 }
 
@@ -95,13 +100,11 @@ fn put_loops(b: &[u8], out: &mut [u8], to: usize, n: usize) -> usize {
     next
 }
 
-// The first block.
+// The first two lines.
 fn put_counts(s: usize, n: usize, out: &mut [u8]) -> usize {
     let mut next = paste(out, 0, b"level scenes places\n3 ");
-    next = put_number(out, next, s);
-    next = paste(out, next, b" ");
-    next = put_number(out, next, n);
-    paste(out, next, b"\nplace loops")
+    next = put_number(out, next, s, 32);
+    put_number(out, next, n, 10)
 }
 
 // Puts the text of a good sheet into out; its length.
@@ -109,9 +112,10 @@ pub fn put_text(b: &[u8], out: &mut [u8]) -> usize {
     let s = naive_sheet::scenes(b);
     let n = naive_sheet::places(b);
     let mut next = put_counts(s, n, out);
+    next = paste(out, next, b"place loops ");
     next = put_names(out, next, s);
     next = put_leading(b, out, next, n);
-    next = paste(out, next, b"place loop mark");
+    next = paste(out, next, b"place loop mark ");
     next = put_names(out, next, s);
     put_loops(b, out, next, n)
 }

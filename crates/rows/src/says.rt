@@ -1,5 +1,11 @@
 // What a call says, as plain numbers: `kind` is the number of a refusal, with its part in `a` and its place in `b`; or one of
 // the answers below, with its numbers.
+use crate::table::field;
+use crate::total::add;
+use crate::total::front;
+use crate::total::paste;
+use crate::total::put;
+use crate::total::sub;
 use crate::total::wide;
 use fdfa::Part;
 use fdfa::Refusal;
@@ -75,33 +81,6 @@ pub fn is_same(x: Says, y: Says) -> bool {
     x.kind == y.kind && x.a == y.a && x.b == y.b && x.c == y.c && x.d == y.d
 }
 
-fn print_part(part: usize) -> bool {
-    match part {
-        0 => io::write_all(1, b" first "),
-        1 => io::write_all(1, b" second "),
-        2 => io::write_all(1, b" opening "),
-        3 => io::write_all(1, b" loop "),
-        4 => io::write_all(1, b" out "),
-        5 => io::write_all(1, b" work "),
-        6 => io::write_all(1, b" cursor "),
-        _ => io::write_all(1, b" no part "),
-    }
-}
-
-fn print_kind(kind: usize) -> bool {
-    match kind {
-        100 => io::write_all(1, b"valid"),
-        101 => io::write_all(1, b"accepted"),
-        102 => io::write_all(1, b"rejected"),
-        103 => io::write_all(1, b"none"),
-        104 => io::write_all(1, b"found"),
-        105 => io::write_all(1, b"filled"),
-        106 => io::write_all(1, b"passed"),
-        107 => io::write_all(1, b"rest"),
-        _ => io::write_all(1, b"no answer"),
-    }
-}
-
 // How many numbers an answer has.
 fn values(kind: usize) -> usize {
     match kind {
@@ -113,25 +92,57 @@ fn values(kind: usize) -> usize {
     }
 }
 
-fn print_value(x: usize) {
-    io::write_all(1, b" ");
-    io::print_decimal(1, x as u64);
+fn first_digits(digits: &[u8; 20], n: usize) -> &[u8] {
+    front(digits, n)
 }
 
-pub fn print_says(x: Says) {
+// A number; the place after it.
+fn put_decimal(out: &mut [u8], to: usize, x: usize) -> usize {
+    let mut digits = [0u8; 20];
+    let n = io::decimal(x as u64, &mut digits);
+    paste(out, to, first_digits(&digits, n))
+}
+
+// A space and a number; the place after it.
+fn put_value(out: &mut [u8], to: usize, x: usize) -> usize {
+    put(out, to, 32);
+    put_decimal(out, add(to, 1), x)
+}
+
+fn put_refusal(x: Says, out: &mut [u8]) -> usize {
+    let mut next = put_decimal(out, 0, x.kind);
+    put(out, next, 32);
+    next = paste(
+        out,
+        add(next, 1),
+        field(b"first|second|opening|loop|out|work|cursor", x.a),
+    );
+    put_value(out, next, x.b)
+}
+
+// The same where `on`.
+fn put_value_if(on: bool, out: &mut [u8], to: usize, x: usize) -> usize {
+    if on {
+        return put_value(out, to, x);
+    }
+    to
+}
+
+fn put_answer(x: Says, out: &mut [u8]) -> usize {
+    let count = values(x.kind);
+    let names = b"valid|accepted|rejected|none|found|filled|passed|rest";
+    let mut next = paste(out, 0, field(names, sub(x.kind, 100)));
+    next = put_value(out, next, x.a);
+    next = put_value_if(1 < count, out, next, x.b);
+    next = put_value_if(1 < count, out, next, x.c);
+    put_value_if(count == 4, out, next, x.d)
+}
+
+// Puts what is said into out, as it is printed; its length.
+pub fn put_says(x: Says, out: &mut [u8]) -> usize {
     if x.kind < 100 {
-        io::print_decimal(1, x.kind as u64);
-        print_part(x.a);
-        io::print_decimal(1, x.b as u64);
+        put_refusal(x, out)
     } else {
-        print_kind(x.kind);
-        print_value(x.a);
-        if 1 < values(x.kind) {
-            print_value(x.b);
-            print_value(x.c);
-        }
-        if values(x.kind) == 4 {
-            print_value(x.d);
-        }
+        put_answer(x, out)
     }
 }

@@ -1,54 +1,15 @@
-// 01's sheets, and trial sheets of any size.
+// Trial sheets of any size, and what a field of a row holds.
+use crate::table::bytes_in;
+use crate::table::field;
+use crate::table::number;
+use crate::table::text_in;
 use crate::total::add;
+use crate::total::at;
 use crate::total::front;
 use crate::total::mul;
 use crate::total::put;
 use crate::total::rem;
 use crate::total::sub;
-
-pub const A: [u8; 8] = [2, 1, 1, 0, 0, 0, 0, 1];
-
-pub const B: [u8; 11] = [2, 1, 2, 0, 0, 1, 0, 1, 1, 0, 1];
-
-pub const C: [u8; 8] = [1, 1, 2, 0, 1, 0, 1, 0];
-
-pub const D: [u8; 10] = [1, 2, 1, 1, 1, 0, 0, 1, 0, 1];
-
-pub const E: [u8; 14] = [1, 3, 1, 1, 1, 1, 2, 1, 0, 0, 0, 1, 0, 0];
-
-// Place 1, which nothing reaches, has the largest loop automaton.
-pub const F: [u8; 16] = [1, 2, 1, 4, 0, 1, 0, 1, 1, 2, 3, 0, 0, 0, 0, 0];
-// Accepts only from place 2 on, which 1 0 reaches first, a loop that ends 1 1.
-pub const G: [u8; 26] = [
-    2,
-    3,
-    1,
-    1,
-    3,
-    0,
-    1,
-    2,
-    1,
-    2,
-    2,
-    0,
-    0,
-    0,
-    0,
-    0,
-    0,
-    0,
-    1,
-    0,
-    2,
-    0,
-    2,
-    0,
-    0,
-    1,
-];
-// Accepts nothing.
-pub const H: [u8; 8] = [2, 1, 1, 0, 0, 0, 0, 0];
 
 // The byte at i of a good sheet with s scenes, n places and k places in each loop automaton. Every second place is marked.
 fn trial_byte(s: usize, n: usize, k: usize, i: usize) -> usize {
@@ -82,9 +43,16 @@ fn trial_in(out: &mut [u8], s: usize, n: usize, k: usize) -> usize {
     count
 }
 
-// Puts such a sheet into out; its length.
-pub fn trial(out: &mut [u8; 512], s: usize, n: usize, k: usize) -> usize {
-    trial_in(out, s, n, k)
+// What a field of a row holds, into out, which is zeros; its length.
+pub fn content(row: &[u8], k: usize, out: &mut [u8; 512]) -> usize {
+    let first = at(field(row, k), 0);
+    if first == 116 {
+        return trial_in(out, number(row, k, 1), number(row, k, 2), number(row, k, 3));
+    }
+    if first < 58 {
+        return bytes_in(field(row, k), out);
+    }
+    text_in(field(row, k), out)
 }
 
 // The first n bytes.

@@ -53,6 +53,23 @@ pub fn tail(s: &[u8], n: usize) -> &[u8] {
     if n <= s.len() { &s[n..] } else { &s[..0] }
 }
 
+// The first n cells, to be written to.
+pub fn front_mut(s: &mut [u8], n: usize) -> &mut [u8] {
+    if n <= s.len() {
+        &mut s[0..n]
+    } else {
+        &mut s[..0]
+    }
+}
+
+pub fn cells_mut(s: &mut [u64], n: usize) -> &mut [u64] {
+    if n <= s.len() {
+        &mut s[0..n]
+    } else {
+        &mut s[..0]
+    }
+}
+
 // Puts w into out from `to` on; the place after it.
 pub fn paste(out: &mut [u8], to: usize, w: &[u8]) -> usize {
     let mut i = 0;

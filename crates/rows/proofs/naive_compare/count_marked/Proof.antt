@@ -1,14 +1,15 @@
 -- `rows::naive_compare::count_marked` is safe and ends. Assumes nothing.
 use borrow.Author.Needs.{needs}
+use lib.ListN.{length}
 use Prim.Native.Nat.{_-_, _≤_}
 use Rattle.rows.proofs.naive_compare.count_marked.Statement.{statement}
 use Rattle.rows.proofs.naive_compare.count_marked.Tie as tie
 
 abbrev Inv-loop : tie.InvT-loop
-Inv-loop flags n sum₀ i₀ sum i = i₀ ≤ i
+Inv-loop flags sum₀ i₀ sum i = i₀ ≤ i
 
 abbrev μ-loop : tie.MeasureT-loop
-μ-loop flags n sum₀ i₀ sum i = n - i
+μ-loop flags sum₀ i₀ sum i = length flags - i
 
 loop-holds : tie.Need-loop-holds Inv-loop μ-loop
 loop-holds c = search needs

@@ -7,16 +7,13 @@ use Rattle.rows.proofs.naive_compare.first_loop.Statement.{statement}
 use Rattle.rows.proofs.naive_compare.first_loop.Tie as tie
 
 abbrev Inv-loop : tie.InvT-loop
-Inv-loop a b lone u v₀ most s count n₀ x₀ v n x = length v ≡ length v₀
+Inv-loop b u v₀ count s n₀ x₀ v n x = length v ≡ length v₀
 
 abbrev μ-loop : tie.MeasureT-loop
-μ-loop a b lone u v₀ most s count n₀ x₀ v n x = count - x
+μ-loop b u v₀ count s n₀ x₀ v n x = count - x
 
 scenes-requires : tie.Need-scenes-requires Inv-loop μ-loop
 scenes-requires c κs = search needs
-
-words-requires : tie.Need-words-requires Inv-loop μ-loop
-words-requires c κs = search needs
 
 following-requires : tie.Need-following-requires Inv-loop μ-loop
 following-requires c κs = search needs
@@ -57,20 +54,4 @@ returns-2 c = search needs
 pub first-loop-spec : {M : Type 1} → statement M
 first-loop-spec =
     tie.close
-    (tie.spec
-    Inv-loop
-    μ-loop
-    scenes-requires
-    words-requires
-    following-requires
-    loop-holds
-    front-requires
-    is-counter-requires
-    same-length
-    returns
-    following-requires-2
-    add-x
-    loop-less
-    loop-again
-    same-length-2
-    returns-2)
+    (tie.spec Inv-loop μ-loop scenes-requires following-requires loop-holds front-requires is-counter-requires same-length returns following-requires-2 add-x loop-less loop-again same-length-2 returns-2)

@@ -7,19 +7,28 @@ use Rattle.rows.proofs.naive_compare.first_show.Statement.{statement}
 use Rattle.rows.proofs.naive_compare.first_show.Tie as tie
 
 abbrev Inv-loop : tie.InvT-loop
-Inv-loop a b lone n most u₀ v₀ s count len₀ x₀ u v len x = (length u ≡ length u₀) × (length v ≡ length v₀)
+Inv-loop b u₀ v₀ s loops count n₀ x₀ u v n x = (length u ≡ length u₀) × (length v ≡ length v₀)
 
 abbrev μ-loop : tie.MeasureT-loop
-μ-loop a b lone n most u₀ v₀ s count len₀ x₀ u v len x = count - x
+μ-loop b u₀ v₀ s loops count n₀ x₀ u v n x = count - x
 
 scenes-requires : tie.Need-scenes-requires Inv-loop μ-loop
 scenes-requires c κs = search needs
 
-sub-requires : tie.Need-sub-requires Inv-loop μ-loop
-sub-requires c κs = search needs
+longest-requires : tie.Need-longest-requires Inv-loop μ-loop
+longest-requires c κs = search needs
 
 words-requires : tie.Need-words-requires Inv-loop μ-loop
 words-requires c κs = search needs
+
+places-requires : tie.Need-places-requires Inv-loop μ-loop
+places-requires c κs = search needs
+
+sub-requires : tie.Need-sub-requires Inv-loop μ-loop
+sub-requires c κs = search needs
+
+words-requires-2 : tie.Need-words-requires-2 Inv-loop μ-loop
+words-requires-2 c κs = search needs
 
 add-requires : tie.Need-add-requires Inv-loop μ-loop
 add-requires c κs = search needs
@@ -32,6 +41,12 @@ front-requires c κs = search needs
 
 first-loop-requires : tie.Need-first-loop-requires Inv-loop μ-loop
 first-loop-requires c κs = search needs
+
+mul-requires : tie.Need-mul-requires Inv-loop μ-loop
+mul-requires c κs = search needs
+
+add-requires-2 : tie.Need-add-requires-2 Inv-loop μ-loop
+add-requires-2 c κs = search needs
 
 same-length : tie.Need-same-length Inv-loop μ-loop
 same-length c = search needs
@@ -66,23 +81,4 @@ returns-2 c = search needs
 pub first-show-spec : {M : Type 1} → statement M
 first-show-spec =
     tie.close
-    (tie.spec
-    Inv-loop
-    μ-loop
-    scenes-requires
-    sub-requires
-    words-requires
-    add-requires
-    loop-holds
-    front-requires
-    first-loop-requires
-    same-length
-    same-length-2
-    returns
-    following-requires
-    add-x
-    loop-less
-    loop-again
-    same-length-3
-    same-length-4
-    returns-2)
+    (tie.spec Inv-loop μ-loop scenes-requires longest-requires words-requires places-requires sub-requires words-requires-2 add-requires loop-holds front-requires first-loop-requires mul-requires add-requires-2 same-length same-length-2 returns following-requires add-x loop-less loop-again same-length-3 same-length-4 returns-2)

@@ -7,19 +7,13 @@ use Rattle.rows.proofs.naive_writer.put_bytes.Statement.{statement}
 use Rattle.rows.proofs.naive_writer.put_bytes.Tie as tie
 
 abbrev Inv-loop : tie.InvT-loop
-Inv-loop b from count out₀ to next₀ i₀ t8 t9 out next i = length out ≡ length out₀
+Inv-loop b from count out₀ to next₀ i₀ out next i = length out ≡ length out₀
 
 abbrev μ-loop : tie.MeasureT-loop
-μ-loop b from count out₀ to next₀ i₀ t8 t9 out next i = count - i
+μ-loop b from count out₀ to next₀ i₀ out next i = count - i
 
 loop-holds : tie.Need-loop-holds Inv-loop μ-loop
 loop-holds c = search needs
-
-slice-aggregate-paste : tie.Need-slice-aggregate-paste Inv-loop μ-loop
-slice-aggregate-paste c = search needs
-
-paste-requires : tie.Need-paste-requires Inv-loop μ-loop
-paste-requires c κs = search needs
 
 add-requires : tie.Need-add-requires Inv-loop μ-loop
 add-requires c κs = search needs
@@ -39,11 +33,11 @@ loop-less c = search needs
 loop-again : tie.Need-loop-again Inv-loop μ-loop
 loop-again c = search needs
 
-slice-aggregate-paste-2 : tie.Need-slice-aggregate-paste-2 Inv-loop μ-loop
-slice-aggregate-paste-2 c = search needs
+sub-requires : tie.Need-sub-requires Inv-loop μ-loop
+sub-requires c κs = search needs
 
-paste-requires-2 : tie.Need-paste-requires-2 Inv-loop μ-loop
-paste-requires-2 c κs = search needs
+put-requires : tie.Need-put-requires Inv-loop μ-loop
+put-requires c κs = search needs
 
 same-length : tie.Need-same-length Inv-loop μ-loop
 same-length c = search needs
@@ -58,15 +52,13 @@ put-bytes-spec =
     Inv-loop
     μ-loop
     loop-holds
-    slice-aggregate-paste
-    paste-requires
     add-requires
     at-requires
     put-number-requires
     add-i
     loop-less
     loop-again
-    slice-aggregate-paste-2
-    paste-requires-2
+    sub-requires
+    put-requires
     same-length
     returns)

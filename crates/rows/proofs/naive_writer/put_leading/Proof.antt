@@ -7,43 +7,16 @@ use Rattle.rows.proofs.naive_writer.put_leading.Statement.{statement}
 use Rattle.rows.proofs.naive_writer.put_leading.Tie as tie
 
 abbrev Inv-loop : tie.InvT-loop
-Inv-loop b out₀ to n s next₀ q₀ t8 out next q = length out ≡ length out₀
+Inv-loop b out₀ to n next₀ q₀ out next q = length out ≡ length out₀
 
 abbrev μ-loop : tie.MeasureT-loop
-μ-loop b out₀ to n s next₀ q₀ t8 out next q = n - q
-
-scenes-requires : tie.Need-scenes-requires Inv-loop μ-loop
-scenes-requires c κs = search needs
+μ-loop b out₀ to n next₀ q₀ out next q = n - q
 
 loop-holds : tie.Need-loop-holds Inv-loop μ-loop
 loop-holds c = search needs
 
-put-number-requires : tie.Need-put-number-requires Inv-loop μ-loop
-put-number-requires c κs = search needs
-
-slice-aggregate-paste : tie.Need-slice-aggregate-paste Inv-loop μ-loop
-slice-aggregate-paste c = search needs
-
-paste-requires : tie.Need-paste-requires Inv-loop μ-loop
-paste-requires c κs = search needs
-
-loops-requires : tie.Need-loops-requires Inv-loop μ-loop
-loops-requires c κs = search needs
-
-put-number-requires-2 : tie.Need-put-number-requires-2 Inv-loop μ-loop
-put-number-requires-2 c κs = search needs
-
-leading-requires : tie.Need-leading-requires Inv-loop μ-loop
-leading-requires c κs = search needs
-
-mul-requires : tie.Need-mul-requires Inv-loop μ-loop
-mul-requires c κs = search needs
-
-add-requires : tie.Need-add-requires Inv-loop μ-loop
-add-requires c κs = search needs
-
-put-bytes-requires : tie.Need-put-bytes-requires Inv-loop μ-loop
-put-bytes-requires c κs = search needs
+put-leading-row-requires : tie.Need-put-leading-row-requires Inv-loop μ-loop
+put-leading-row-requires c κs = search needs
 
 add-q : tie.Need-add-q Inv-loop μ-loop
 add-q c = search needs
@@ -63,22 +36,4 @@ returns c = search needs
 pub put-leading-spec : {M : Type 1} → statement M
 put-leading-spec =
     tie.close
-    (tie.spec
-    Inv-loop
-    μ-loop
-    scenes-requires
-    loop-holds
-    put-number-requires
-    slice-aggregate-paste
-    paste-requires
-    loops-requires
-    put-number-requires-2
-    leading-requires
-    mul-requires
-    add-requires
-    put-bytes-requires
-    add-q
-    loop-less
-    loop-again
-    same-length
-    returns)
+    (tie.spec Inv-loop μ-loop loop-holds put-leading-row-requires add-q loop-less loop-again same-length returns)

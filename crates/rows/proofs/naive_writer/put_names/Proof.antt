@@ -7,19 +7,19 @@ use Rattle.rows.proofs.naive_writer.put_names.Statement.{statement}
 use Rattle.rows.proofs.naive_writer.put_names.Tie as tie
 
 abbrev Inv-loop : tie.InvT-loop
-Inv-loop out₀ to s next₀ c₀ t6 t7 out next c = length out ≡ length out₀
+Inv-loop out₀ to s next₀ c₀ out next c = length out ≡ length out₀
 
 abbrev μ-loop : tie.MeasureT-loop
-μ-loop out₀ to s next₀ c₀ t6 t7 out next c = s - c
+μ-loop out₀ to s next₀ c₀ out next c = s - c
 
 loop-holds : tie.Need-loop-holds Inv-loop μ-loop
 loop-holds c = search needs
 
-slice-aggregate-paste : tie.Need-slice-aggregate-paste Inv-loop μ-loop
-slice-aggregate-paste c = search needs
+put-requires : tie.Need-put-requires Inv-loop μ-loop
+put-requires c κs = search needs
 
-paste-requires : tie.Need-paste-requires Inv-loop μ-loop
-paste-requires c κs = search needs
+add-requires : tie.Need-add-requires Inv-loop μ-loop
+add-requires c κs = search needs
 
 put-number-requires : tie.Need-put-number-requires Inv-loop μ-loop
 put-number-requires c κs = search needs
@@ -33,11 +33,11 @@ loop-less c = search needs
 loop-again : tie.Need-loop-again Inv-loop μ-loop
 loop-again c = search needs
 
-slice-aggregate-paste-2 : tie.Need-slice-aggregate-paste-2 Inv-loop μ-loop
-slice-aggregate-paste-2 c = search needs
+sub-requires : tie.Need-sub-requires Inv-loop μ-loop
+sub-requires c κs = search needs
 
-paste-requires-2 : tie.Need-paste-requires-2 Inv-loop μ-loop
-paste-requires-2 c κs = search needs
+put-requires-2 : tie.Need-put-requires-2 Inv-loop μ-loop
+put-requires-2 c κs = search needs
 
 same-length : tie.Need-same-length Inv-loop μ-loop
 same-length c = search needs
@@ -52,13 +52,13 @@ put-names-spec =
     Inv-loop
     μ-loop
     loop-holds
-    slice-aggregate-paste
-    paste-requires
+    put-requires
+    add-requires
     put-number-requires
     add-c
     loop-less
     loop-again
-    slice-aggregate-paste-2
-    paste-requires-2
+    sub-requires
+    put-requires-2
     same-length
     returns)

@@ -1,19 +1,22 @@
--- `rows::naive_compare::reached` is safe and ends. Assumes nothing.
+-- `rows::naive_compare::mark_reached` is safe and ends. Assumes nothing.
 use borrow.Author.Needs.{needs}
 use lib.ListN.{length}
 use Prim.Native.Nat.{_-_}
 use mathlib.Core.Path.{_≡_}
-use Rattle.rows.proofs.naive_compare.reached.Statement.{statement}
-use Rattle.rows.proofs.naive_compare.reached.Tie as tie
+use Rattle.rows.proofs.naive_compare.mark_reached.Statement.{statement}
+use Rattle.rows.proofs.naive_compare.mark_reached.Tie as tie
 
 abbrev Inv-loop : tie.InvT-loop
-Inv-loop a b lone n flags₀ s count x₀ flags x = length flags ≡ length flags₀
+Inv-loop b flags₀ s n count x₀ flags x = length flags ≡ length flags₀
 
 abbrev μ-loop : tie.MeasureT-loop
-μ-loop a b lone n flags₀ s count x₀ flags x = count - x
+μ-loop b flags₀ s n count x₀ flags x = count - x
 
 scenes-requires : tie.Need-scenes-requires Inv-loop μ-loop
 scenes-requires c κs = search needs
+
+places-requires : tie.Need-places-requires Inv-loop μ-loop
+places-requires c κs = search needs
 
 mul-requires : tie.Need-mul-requires Inv-loop μ-loop
 mul-requires c κs = search needs
@@ -48,22 +51,20 @@ loop-less c = search needs
 loop-again : tie.Need-loop-again Inv-loop μ-loop
 loop-again c = search needs
 
-count-marked-requires : tie.Need-count-marked-requires Inv-loop μ-loop
-count-marked-requires c κs = search needs
-
 same-length : tie.Need-same-length Inv-loop μ-loop
 same-length c = search needs
 
 returns : tie.Need-returns Inv-loop μ-loop
 returns c = search needs
 
-pub reached-spec : {M : Type 1} → statement M
-reached-spec =
+pub mark-reached-spec : {M : Type 1} → statement M
+mark-reached-spec =
     tie.close
     (tie.spec
     Inv-loop
     μ-loop
     scenes-requires
+    places-requires
     mul-requires
     mul-requires-2
     put-requires
@@ -75,6 +76,5 @@ reached-spec =
     add-x
     loop-less
     loop-again
-    count-marked-requires
     same-length
     returns)

@@ -1,0 +1,51 @@
+-- `rows::table::after` is safe and ends. Assumes nothing.
+use borrow.Author.Needs.{needs}
+use lib.ListN.{length}
+use Prim.Native.Nat.{_-_, _≤_}
+use Rattle.rows.proofs.table.after.Statement.{statement}
+use Rattle.rows.proofs.table.after.Tie as tie
+
+abbrev Inv-loop : tie.InvT-loop
+Inv-loop s k seen₀ i₀ seen i = i₀ ≤ i
+
+abbrev μ-loop : tie.MeasureT-loop
+μ-loop s k seen₀ i₀ seen i = length s - i
+
+loop-holds : tie.Need-loop-holds Inv-loop μ-loop
+loop-holds c = search needs
+
+returns : tie.Need-returns Inv-loop μ-loop
+returns c = search needs
+
+at-requires : tie.Need-at-requires Inv-loop μ-loop
+at-requires c κs = search needs
+
+add-requires : tie.Need-add-requires Inv-loop μ-loop
+add-requires c κs = search needs
+
+add-i : tie.Need-add-i Inv-loop μ-loop
+add-i c = search needs
+
+loop-less : tie.Need-loop-less Inv-loop μ-loop
+loop-less c = search needs
+
+loop-again : tie.Need-loop-again Inv-loop μ-loop
+loop-again c = search needs
+
+returns-2 : tie.Need-returns-2 Inv-loop μ-loop
+returns-2 c = search needs
+
+pub after-spec : {M : Type 1} → statement M
+after-spec =
+    tie.close
+    (tie.spec
+    Inv-loop
+    μ-loop
+    loop-holds
+    returns
+    at-requires
+    add-requires
+    add-i
+    loop-less
+    loop-again
+    returns-2)
