@@ -9,10 +9,10 @@ use native.Mathlib.Numerals.{add-one}
 use lib.ListN.{length, length-append}
 use Rattle.fdfa.specs.Boolean.{product}
 use Rattle.fdfa.proofs.Product.{left-below}
-use Rattle.packed.specs.Tables.{sum}
+use Rattle.slices.specs.Tables.{sum}
 use Rattle.packed.specs.Layout.{letterCount, stateCount, decode, frontBytes, partBytes}
-use Rattle.packed.proofs.Bounds.{sum-le, few-both, part-few}
-use Rattle.packed.proofs.Tabulated.{length-rows, sum-same}
+use Rattle.slices.proofs.Tables.{sum-le, length-rows, sum-same}
+use Rattle.packed.proofs.Bounds.{few-both, part-few}
 use Rattle.packed.proofs.Packing.{length-front, length-part}
 use Rattle.boolean.specs.declared.Operation.{Operation}
 use Rattle.boolean.specs.Operations.{opOf, pairSize, productFront, productParts, productBytes, productAt, Pair}

@@ -10,10 +10,10 @@ use lib.ListN.{length, getD, length-append}
 use Rattle.fdfa.specs.Family.{Closed}
 use Rattle.fdfa.specs.Boolean.{beside}
 use Rattle.fdfa.proofs.Product.{left-below, beside-closed}
-use Rattle.packed.specs.Tables.{tab}
-use Rattle.packed.specs.Layout.{letterCount, stateCount, sizeOf, leadingAt, progressAt, tableStep, decode, mark, table, Valid}
+use Rattle.slices.specs.Tables.{tab, table}
+use Rattle.packed.specs.Layout.{letterCount, stateCount, sizeOf, leadingAt, progressAt, tableStep, decode, mark, Valid}
 use Rattle.packed.proofs.Bounds.{few-both, progress-first, progress-upto, Body, body}
-use Rattle.packed.proofs.Tabulated.{length-tab, length-table}
+use Rattle.slices.proofs.Tables.{length-tab, length-table}
 use Rattle.boolean.specs.declared.Operation.{Operation}
 use Rattle.boolean.specs.Operations.{opOf, pairNext, pairMark, pairSize, RowReads, MarkReads, SizeReads, pairPart, productFront, Pair}
 

@@ -9,13 +9,12 @@ use lib.ListN.{length, take, drop, length-append}
 use lib.Seq.{take-at, drop-at}
 use Rattle.fdfa.specs.Family.{Fdfa}
 use Rattle.fdfa.specs.Boolean.{complement}
-use Rattle.fdfa.specs.Slices.{written}
-use Rattle.fdfa.proofs.Slices.{Begun, written-again}
-use Rattle.packed.specs.Tables.{tab, rows}
-use Rattle.packed.specs.Layout.{letterCount, stateCount, sizeOf, progressAt, decode, mark, table, frontBytes, partBytes, Valid}
-use Rattle.packed.proofs.Tabulated.{getD-tab, tab-same, sum-same, length-rows, length-table}
+use Rattle.slices.specs.Filling.{written}
+use Rattle.slices.proofs.Filling.{Begun, written-again, rows-next}
+use Rattle.slices.specs.Tables.{tab, rows, table}
+use Rattle.packed.specs.Layout.{letterCount, stateCount, sizeOf, progressAt, decode, mark, frontBytes, partBytes, Valid}
+use Rattle.slices.proofs.Tables.{getD-tab, tab-same, sum-same, length-rows, length-table}
 use Rattle.packed.proofs.Packing.{mark-says, part-length, length-part, length-front, part-of-bytes}
-use Rattle.packed.proofs.Filling.{rows-next}
 use Rattle.boolean.specs.Operations.{turnedMark, turnedPart, complementBytes}
 
 turned-bytes : (F : Fdfa) (q : ℕ) → turnedPart (partBytes F q) (F .size q * F .letters) ≡ partBytes (complement F) q

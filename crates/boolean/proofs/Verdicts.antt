@@ -8,18 +8,18 @@ use native.Mathlib.Nat.{mod-lt, mul-le-mul}
 use lib.Dec.{ltb}
 use lib.ListN.{length}
 use borrow.Author.Tests.{ltb-false}
-use Rattle.fdfa.specs.declared.Part.the-variants.{Out}
+use Rattle.slices.specs.declared.Part.the-variants.{Out}
 use Rattle.fdfa.specs.Family.{Fdfa, Complete, Lasso}
 use Rattle.fdfa.specs.Normalization.{Normalized}
 use Rattle.fdfa.specs.Acceptance.{Verdict, verdict, accepts}
 use Rattle.fdfa.specs.Boolean.{complement, product}
 use Rattle.fdfa.specs.Inclusion.{widest}
-use Rattle.fdfa.specs.Refusals.{Fault, sound, _then_, when}
+use Rattle.slices.specs.Refusals.{Fault, sound, _then_, when}
 use Rattle.fdfa.specs.Invariance.{TurnProof}
 use Rattle.fdfa.proofs.Agreement.{verdict-same}
 use Rattle.fdfa.proofs.Complement.{complement-complete}
-use Rattle.fdfa.proofs.Largest.{largest-le}
-use Rattle.fdfa.proofs.Refusals.{then-left, then-right, when-sound}
+use Rattle.slices.proofs.Extremes.{largest-le}
+use Rattle.slices.proofs.Refusals.{then-left, then-right, when-sound}
 use Rattle.fdfa.proofs.Product.{left-below, product-complete, product-closing, product-of-turn-proof}
 use Rattle.packed.specs.Layout.{letterCount, stateCount, sizeOf, decode, pack, Packable, Valid}
 use Rattle.packed.specs.Faults.{pairFault}

@@ -5,17 +5,15 @@ use mathlib.Core.List.{List, _++_}
 use Prim.Native.Nat.{ℕ, _+_, _*_, _-_, _/_, _%_, _≤_, _<_}
 use lib.Dec.{eqb, ltb}
 use lib.ListN.{length, getD, take, drop}
-use Rattle.fdfa.specs.declared.Part.the-variants.{First, Out}
+use Rattle.slices.specs.declared.Part.the-variants.{First, Out}
 use Rattle.fdfa.specs.Family.{Fdfa}
 use Rattle.fdfa.specs.Boolean.{complement, product, intersection, union, beside}
 use Rattle.fdfa.specs.Inclusion.{widest}
-use Rattle.fdfa.specs.Refusals.{Fault, _then_, when, Result, given, refused}
-use Rattle.packed.specs.Layout.{letterCount, stateCount, sizeOf, tableStep, decode, mark, table, frontBytes, pack, Valid}
+use Rattle.slices.specs.Refusals.{Fault, _then_, when, refused}
+use Rattle.packed.specs.Layout.{letterCount, stateCount, sizeOf, tableStep, decode, mark, frontBytes, pack, Valid}
+use Rattle.slices.specs.Tables.{table, tab, rows, sum}
 use Rattle.packed.specs.Faults.{sheetFault, pairFault}
-use Rattle.packed.specs.Tables.{tab, rows, sum}
 use Rattle.boolean.specs.declared.Beside.{Beside}
-use Rattle.boolean.specs.declared.Written.{Written}
-use Rattle.boolean.specs.declared.Written.the-variants.{Filled, Refused}
 use Rattle.boolean.specs.declared.Operation.{Operation}
 use Rattle.boolean.specs.declared.Operation.the-variants.{Both, Either}
 
@@ -115,8 +113,3 @@ productFault op b c cells =
     then when (ltb 32 (stateCount b * stateCount c)) 20 Out (stateCount b * stateCount c)
     then when (ltb 32 (widest (decode b) * widest (decode c))) 20 Out (widest (decode b) * widest (decode c))
     then tooShort cells (length (productBytes op b c))
-
--- The answer of the code, by cases: the length filled, or the refusal.
-abbrev pub saysOf : Written → Result ℕ
-saysOf (Filled n) = given n
-saysOf (Refused r) = refused r

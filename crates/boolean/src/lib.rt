@@ -1,45 +1,29 @@
 // Complement, intersection and union of families of DFAs, written as packed sheets into a lent slice.
 mod writing; // writing.rt: the bytes of a product
 
-use fdfa::Part;
-use fdfa::Refusal;
 use packed::Validities;
 use packed::Validity;
+use slices::Part;
+use slices::Written;
+use slices::copy;
+use slices::refuse;
 use writing::product_length;
 use writing::write_product;
 ghost use mathlib.Core.Path.{_≡_};
 ghost use mathlib.Core.Bool.{not};
-ghost use Prim.Native.Nat.{_+_, _*_, _≤_, _<_};
+ghost use Prim.Native.Nat.{_*_, _≤_};
 ghost use lib.Dec.{eqb};
 ghost use lib.ListN.{length};
-ghost use Rattle.fdfa.specs.Refusals.{unless};
-ghost use Rattle.fdfa.specs.Slices.{written, filled};
-ghost use Rattle.packed.specs.Tables.{tab};
+ghost use Rattle.slices.specs.Refusals.{unless, writtenSays};
+ghost use Rattle.slices.specs.Filling.{written, filled};
+ghost use Rattle.slices.specs.Tables.{tab};
 ghost use Rattle.packed.specs.Layout.{letterCount, stateCount, mark, Valid};
-ghost use Rattle.boolean.specs.Operations.{turnedMark, turnedPart, complementBytes, complementFault, Pair, productBytes, intersectionBytes, unionBytes, tooShort, productFault, saysOf};
-
-// What a call that fills the out slice says: the length filled, or the refusal.
-pub enum Written {
-    Filled(usize),
-    Refused(Refusal),
-}
+ghost use Rattle.boolean.specs.Operations.{turnedMark, turnedPart, complementBytes, complementFault, Pair, productBytes, intersectionBytes, unionBytes, tooShort, productFault};
 
 // Which marks of a pair make it marked.
 pub enum Operation {
     Both,
     Either,
-}
-
-// Copies bytes to the start of a slice.
-fn copy(from: &[u8], out: &mut [u8])
-    requires { ⌜ length (now from) ≤ length (now out) ⌝ }
-    ensures { λ _. ⌜ now (out .exit) ≡ written (now (from .entry)) (now (out .entry)) ⌝ }
-{
-    let mut i = 0;
-    while i < from.len() {
-        out[i] = from[i];
-        i += 1;
-    }
 }
 
 fn turned(m: u8) -> u8
@@ -86,19 +70,9 @@ fn write_complement(sheet: &[u8], states: usize, letters: usize, out: &mut [u8])
     }
 }
 
-fn refuse(number: u8, place: usize) -> Written
-    ensures { λ r. ⌜ r ≡ Written.Refused (record { number = number; part = Part.Out; place = place }) ⌝ }
-{
-    Written::Refused(Refusal {
-        number,
-        part: Part::Out,
-        place,
-    })
-}
-
 // The complement of a sheet: the same sheet, every mark turned.
 pub fn complement(sheet: &[u8], out: &mut [u8]) -> Written
-    ensures says { λ r. ⌜ saysOf r ≡ unless (complementFault (now (sheet .entry)) (length (now (out .entry)))) (length (complementBytes (now (sheet .entry)))) ⌝ }
+    ensures says { λ r. ⌜ writtenSays r ≡ unless (complementFault (now (sheet .entry)) (length (now (out .entry)))) (length (complementBytes (now (sheet .entry)))) ⌝ }
     ensures fills { λ _. ⌜ now (out .exit) ≡ filled (complementFault (now (sheet .entry)) (length (now (out .entry)))) (complementBytes (now (sheet .entry))) (now (out .entry)) ⌝ }
 {
     let validity = packed::check(sheet, Part::First);
@@ -106,7 +80,7 @@ pub fn complement(sheet: &[u8], out: &mut [u8]) -> Written
         Validity::Refused(r) => Written::Refused(r),
         Validity::Valid(z) => {
             if out.len() < sheet.len() {
-                return refuse(21, sheet.len());
+                return Written::Refused(refuse(21, Part::Out, sheet.len()));
             }
             write_complement(sheet, z.states, z.letters, out);
             Written::Filled(sheet.len())
@@ -133,19 +107,19 @@ fn fill_product(
     out: &mut [u8],
 ) -> Written
     requires { ⌜ Pair (now first) (now second) letters × (width ≡ stateCount (now second)) × (count ≡ stateCount (now first) * stateCount (now second)) ⌝ }
-    ensures says { λ r. ⌜ saysOf r ≡ unless (tooShort (length (now (out .entry))) (length (productBytes op (now (first .entry)) (now (second .entry))))) (length (productBytes op (now (first .entry)) (now (second .entry)))) ⌝ }
+    ensures says { λ r. ⌜ writtenSays r ≡ unless (tooShort (length (now (out .entry))) (length (productBytes op (now (first .entry)) (now (second .entry))))) (length (productBytes op (now (first .entry)) (now (second .entry)))) ⌝ }
     ensures fills { λ _. ⌜ now (out .exit) ≡ filled (tooShort (length (now (out .entry))) (length (productBytes op (now (first .entry)) (now (second .entry))))) (productBytes op (now (first .entry)) (now (second .entry))) (now (out .entry)) ⌝ }
 {
     let needed = product_length(first, second, letters, width, count);
     if out.len() < needed {
-        return refuse(21, needed);
+        return Written::Refused(refuse(21, Part::Out, needed));
     }
     write_product(first, second, letters, width, count, op, out);
     Written::Filled(needed)
 }
 
 fn product(first: &[u8], second: &[u8], op: Operation, out: &mut [u8]) -> Written
-    ensures says { λ r. ⌜ saysOf r ≡ unless (productFault op (now (first .entry)) (now (second .entry)) (length (now (out .entry)))) (length (productBytes op (now (first .entry)) (now (second .entry)))) ⌝ }
+    ensures says { λ r. ⌜ writtenSays r ≡ unless (productFault op (now (first .entry)) (now (second .entry)) (length (now (out .entry)))) (length (productBytes op (now (first .entry)) (now (second .entry)))) ⌝ }
     ensures fills { λ _. ⌜ now (out .exit) ≡ filled (productFault op (now (first .entry)) (now (second .entry)) (length (now (out .entry)))) (productBytes op (now (first .entry)) (now (second .entry))) (now (out .entry)) ⌝ }
 {
     let pair = packed::check_pair(first, second);
@@ -154,11 +128,11 @@ fn product(first: &[u8], second: &[u8], op: Operation, out: &mut [u8]) -> Writte
         Validities::Valid(y, z) => {
             let n = y.states * z.states;
             if 32 < n {
-                return refuse(20, n);
+                return Written::Refused(refuse(20, Part::Out, n));
             }
             let k = y.widest * z.widest;
             if 32 < k {
-                return refuse(20, k);
+                return Written::Refused(refuse(20, Part::Out, k));
             }
             fill_product(first, second, y.letters, z.states, n, op, out)
         }
@@ -167,7 +141,7 @@ fn product(first: &[u8], second: &[u8], op: Operation, out: &mut [u8]) -> Writte
 
 // The intersection of two sheets: a pair is marked when both its states are.
 pub fn intersection(first: &[u8], second: &[u8], out: &mut [u8]) -> Written
-    ensures says { λ r. ⌜ saysOf r ≡ unless (productFault Operation.Both (now (first .entry)) (now (second .entry)) (length (now (out .entry)))) (length (intersectionBytes (now (first .entry)) (now (second .entry)))) ⌝ }
+    ensures says { λ r. ⌜ writtenSays r ≡ unless (productFault Operation.Both (now (first .entry)) (now (second .entry)) (length (now (out .entry)))) (length (intersectionBytes (now (first .entry)) (now (second .entry)))) ⌝ }
     ensures fills { λ _. ⌜ now (out .exit) ≡ filled (productFault Operation.Both (now (first .entry)) (now (second .entry)) (length (now (out .entry)))) (intersectionBytes (now (first .entry)) (now (second .entry))) (now (out .entry)) ⌝ }
 {
     product(first, second, Operation::Both, out)
@@ -175,7 +149,7 @@ pub fn intersection(first: &[u8], second: &[u8], out: &mut [u8]) -> Written
 
 // The union of two sheets: a pair is marked when either of its states is.
 pub fn union(first: &[u8], second: &[u8], out: &mut [u8]) -> Written
-    ensures says { λ r. ⌜ saysOf r ≡ unless (productFault Operation.Either (now (first .entry)) (now (second .entry)) (length (now (out .entry)))) (length (unionBytes (now (first .entry)) (now (second .entry)))) ⌝ }
+    ensures says { λ r. ⌜ writtenSays r ≡ unless (productFault Operation.Either (now (first .entry)) (now (second .entry)) (length (now (out .entry)))) (length (unionBytes (now (first .entry)) (now (second .entry)))) ⌝ }
     ensures fills { λ _. ⌜ now (out .exit) ≡ filled (productFault Operation.Either (now (first .entry)) (now (second .entry)) (length (now (out .entry)))) (unionBytes (now (first .entry)) (now (second .entry))) (now (out .entry)) ⌝ }
 {
     product(first, second, Operation::Either, out)

@@ -1,22 +1,15 @@
 // The bytes of a product: sizes, leading table, and for each pair of leading states the part of its progress automata.
 use crate::Beside;
 use crate::Operation;
+use slices::narrow;
 ghost use mathlib.Core.Path.{_≡_};
 ghost use mathlib.Core.List.{_++_};
 ghost use Prim.Native.Nat.{ℕ, _+_, _*_, _≤_, _<_};
 ghost use lib.ListN.{length};
-ghost use Rattle.fdfa.specs.Slices.{written};
-ghost use Rattle.packed.specs.Tables.{tab};
-ghost use Rattle.packed.specs.Layout.{stateCount, decode, mark, table};
+ghost use Rattle.slices.specs.Filling.{written};
+ghost use Rattle.slices.specs.Tables.{tab, table};
+ghost use Rattle.packed.specs.Layout.{stateCount, decode, mark};
 ghost use Rattle.boolean.specs.Operations.{opOf, pairNext, pairMark, pairSize, RowReads, MarkReads, SizeReads, pairPart, productParts, productFront, Pair, productAt, productBytes};
-
-// A number below 256 as a byte.
-fn byte(x: usize) -> u8
-    requires { ⌜ x < 256 ⌝ }
-    ensures { λ r. ⌜ r ≡ x ⌝ }
-{
-    x as u8
-}
 
 // Writes the next states of the pair x.
 fn write_row(first: &[u8], second: &[u8], t: Beside, x: usize, out: &mut [u8])
@@ -31,7 +24,7 @@ fn write_row(first: &[u8], second: &[u8], t: Beside, x: usize, out: &mut [u8])
     let q = x % w;
     let mut a = 0;
     while a < s {
-        out[a] = byte(packed::next(first, f, s, p, a) * w + packed::next(second, g, s, q, a));
+        out[a] = narrow(packed::next(first, f, s, p, a) * w + packed::next(second, g, s, q, a));
         a += 1;
     }
 }
@@ -90,7 +83,7 @@ fn write_sizes(first: &[u8], second: &[u8], width: usize, count: usize, out: &mu
 {
     let mut x = 0;
     while x < count {
-        out[x] = byte(packed::size(first, x / width) * packed::size(second, x % width));
+        out[x] = narrow(packed::size(first, x / width) * packed::size(second, x % width));
         x += 1;
     }
 }
@@ -193,8 +186,8 @@ fn write_front(
     requires { ⌜ 2 + count + count * letters ≤ length (now out) ⌝ }
     ensures { λ _. ⌜ now (out .exit) ≡ written (productFront (decode (now (first .entry))) (decode (now (second .entry)))) (now (out .entry)) ⌝ }
 {
-    out[0] = byte(letters);
-    out[1] = byte(count);
+    out[0] = narrow(letters);
+    out[1] = narrow(count);
     write_sizes(first, second, width, count, &mut out[2..]);
     let at = 2 + count;
     let t = Beside {

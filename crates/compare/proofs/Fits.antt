@@ -7,11 +7,11 @@ use native.Mathlib.Omega.{arith}
 use lib.Dec.{ltb}
 use lib.ListN.{length}
 use borrow.Author.Tests.{ltb-false}
-use Rattle.fdfa.specs.declared.Part.the-variants.{Opening, Loop}
+use Rattle.slices.specs.declared.Part.the-variants.{Opening, Loop}
 use Rattle.fdfa.specs.Enumeration.{Witness, absent, lasso}
 use Rattle.fdfa.specs.Inclusion as model
-use Rattle.fdfa.specs.Refusals.{Fault, sound, _then_, when}
-use Rattle.fdfa.proofs.Refusals.{then-left, then-right, when-sound, was-given}
+use Rattle.slices.specs.Refusals.{Fault, sound, _then_, when}
+use Rattle.slices.proofs.Refusals.{then-left, then-right, when-sound, was-given}
 use Rattle.inclusion.specs.declared.Answer.{Answer}
 use Rattle.inclusion.specs.declared.Answer.the-variants.{Found}
 use Rattle.inclusion.specs.declared.Comparison.{Comparison}

@@ -3,14 +3,11 @@
 use console::Length;
 use inclusion::Answer;
 use inclusion::Comparison;
+use slices::wide;
 
 const SCENES: usize = 4096;
 
 const CELLS: usize = 8192;
-
-fn wide(scene: u8) -> usize {
-    scene as usize
-}
 
 // The first block.
 fn print_verdict(verdict: &[u8], c: Comparison) {

@@ -4,9 +4,9 @@ use Prim.Native.Nat.{ℕ, _≤_}
 use native.Mathlib.Omega.{arith}
 use lib.Dec.{ltb}
 use borrow.Author.Tests.{ltb-false}
-use Rattle.fdfa.specs.declared.Part.the-variants.{Out}
-use Rattle.fdfa.specs.Refusals.{Fault, _then_, when, given, unless}
-use Rattle.fdfa.proofs.Refusals.{then-right, when-sound, was-given}
+use Rattle.slices.specs.declared.Part.the-variants.{Out}
+use Rattle.slices.specs.Refusals.{Fault, _then_, when, given, unless}
+use Rattle.slices.proofs.Refusals.{then-right, when-sound, was-given}
 
 pub fits : (f : Fault) (room need : ℕ) {n : ℕ} → given n ≡ unless (f then when (ltb room need) 21 Out need) need → n ≤ room
 fits f room need e =

@@ -1,9 +1,9 @@
 -- Refusal 25: a file of more than 65,536 bytes. Assumes nothing.
 use Prim.Native.Nat.{ℕ}
 use lib.Dec.{ltb}
-use Rattle.fdfa.specs.declared.Part.{Part}
-use Rattle.fdfa.specs.declared.Part.the-variants.{First, Second}
-use Rattle.fdfa.specs.Refusals.{Fault, sound, fault, _then_, when}
+use Rattle.slices.specs.declared.Part.{Part}
+use Rattle.slices.specs.declared.Part.the-variants.{First, Second}
+use Rattle.slices.specs.Refusals.{Fault, sound, fault, _then_, when}
 use Rattle.console.specs.declared.Length.{Length}
 use Rattle.console.specs.declared.Length.the-variants.{Good, Refused}
 

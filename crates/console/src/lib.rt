@@ -1,6 +1,7 @@
 // What the programs share: files read and written whole, refusal 25, and what is printed.
-use fdfa::Part;
-use fdfa::Refusal;
+use slices::Part;
+use slices::Refusal;
+use slices::refuse;
 ghost use mathlib.Core.Path.{_≡_};
 ghost use Rattle.console.specs.Files.{lengthFault, lengthsFault, saysOf};
 
@@ -29,11 +30,7 @@ pub fn check_length(length: usize, part: Part) -> Length
     ensures { λ r. ⌜ saysOf r ≡ lengthFault part length ⌝ }
 {
     if LONGEST < length {
-        return Length::Refused(Refusal {
-            number: 25,
-            part,
-            place: LONGEST,
-        });
+        return Length::Refused(refuse(25, part, LONGEST));
     }
     Length::Good
 }

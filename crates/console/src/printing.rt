@@ -1,6 +1,6 @@
 // What the programs print: text and numbers on standard output, and refusals.
-use fdfa::Part;
-use fdfa::Refusal;
+use slices::Part;
+use slices::Refusal;
 
 // Writes all of a text to standard output.
 pub fn print(text: &[u8]) {

@@ -10,10 +10,10 @@ use lib.Dec.{leb}
 use lib.ListN.{length, getD, drop, take, length-drop}
 use lib.Seq.{take-all}
 use borrow.Author.Tests.{eq-eqb, ne-eqb, lt-ltb, le-ltb, le-leb, lt-leb}
-use Rattle.fdfa.specs.declared.Part.the-variants as part
-use Rattle.fdfa.specs.declared.Refusal.{Refusal}
-use Rattle.fdfa.specs.Refusals.{Fault, sound, fault, when}
-use Rattle.fdfa.proofs.Refusals.{when-fails, when-passes, passed, failed}
+use Rattle.slices.specs.declared.Part.the-variants as part
+use Rattle.slices.specs.declared.Refusal.{Refusal}
+use Rattle.slices.specs.Refusals.{Fault, sound, fault, when}
+use Rattle.slices.proofs.Refusals.{when-fails, when-passes, passed, failed}
 use Rattle.cursor.specs.declared.Playing.{Playing}
 use Rattle.cursor.specs.declared.Playing.the-variants.{Prefix, Period}
 use Rattle.cursor.specs.declared.Cursor.{Cursor}

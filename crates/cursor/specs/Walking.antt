@@ -4,9 +4,9 @@ use mathlib.Core.List.{List, []}
 use Prim.Native.Nat.{ℕ, zero, suc, _+_}
 use lib.Dec.{eqb, ltb, leb}
 use lib.ListN.{length, getD, drop}
-use Rattle.fdfa.specs.declared.Part.the-variants as part
-use Rattle.fdfa.specs.declared.Refusal.{Refusal}
-use Rattle.fdfa.specs.Refusals.{Fault, sound, fault, _then_, when}
+use Rattle.slices.specs.declared.Part.the-variants as part
+use Rattle.slices.specs.declared.Refusal.{Refusal}
+use Rattle.slices.specs.Refusals.{Fault, sound, fault, _then_, when}
 use Rattle.cursor.specs.declared.Playing.{Playing}
 use Rattle.cursor.specs.declared.Playing.the-variants.{Prefix, Period}
 use Rattle.cursor.specs.declared.Cursor.{Cursor}

@@ -1,6 +1,7 @@
 // A cursor over the infinite word of a lasso: letter by letter through the prefix once, then through the period for ever.
-use fdfa::Part;
-use fdfa::Refusal;
+use slices::Part;
+use slices::Refusal;
+use slices::refuse;
 ghost use mathlib.Core.Path.{_≡_};
 ghost use denote.Ref.{ptr};
 ghost use Rattle.cursor.specs.Walking.{startOf, stepFault, stepped, passedIn, saysOf, restOf, restLies};
@@ -45,14 +46,7 @@ fn pass(c: Cursor, word: &[u8]) -> Step
 {
     let at = c.at;
     if word.len() <= at {
-        return Step::Refused(
-            Refusal {
-                number: 24,
-                part: Part::Cursor,
-                place: at,
-            },
-            c,
-        );
+        return Step::Refused(refuse(24, Part::Cursor, at), c);
     }
     let letter = word[at];
     if at + 1 < word.len() {
@@ -75,14 +69,7 @@ impl Cursor {
         ensures { λ r. ⌜ saysOf r ≡ stepped self (now (prefix .entry)) (now (period .entry)) ⌝ }
     {
         if period.len() == 0 {
-            return Step::Refused(
-                Refusal {
-                    number: 8,
-                    part: Part::Loop,
-                    place: 0,
-                },
-                self,
-            );
+            return Step::Refused(refuse(8, Part::Loop, 0), self);
         }
         let part = self.part;
         match part {

@@ -17,8 +17,8 @@ use Rattle.fdfa.specs.Acceptance.{accepts}
 use Rattle.fdfa.specs.Boolean.{beside}
 use Rattle.fdfa.specs.Enumeration.{Witness, absent, lasso, firstLasso}
 use Rattle.fdfa.specs.Inclusion.{Answers, none-has, first-is, normalized, widest, Accepted, emptiness}
-use Rattle.fdfa.proofs.Largest.{largest-le}
-use Rattle.fdfa.proofs.Tests.{and-left, and-right, both}
+use Rattle.slices.proofs.Extremes.{largest-le}
+use Rattle.slices.proofs.Tests.{and-left, and-right, both}
 use Rattle.fdfa.proofs.Words.{walk-closed}
 use Rattle.fdfa.proofs.Order.{before-irrefl, before-trans}
 use Rattle.fdfa.proofs.Normal.{back-normalized, normalized-back, normalized-accepts, normalization}

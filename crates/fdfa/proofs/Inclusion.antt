@@ -14,10 +14,10 @@ use Rattle.fdfa.specs.Boolean.{product}
 use Rattle.fdfa.specs.Invariance.{TurnProof}
 use Rattle.fdfa.specs.Enumeration.{absent, lasso}
 use Rattle.fdfa.specs.Inclusion.{Counterexample, Answers, none-has, normalized, counters, widest, pairs, pairStep, combinations, comparison, Accepted}
-use Rattle.fdfa.proofs.Tests.{and-left, and-right, both, not-of, of-not}
+use Rattle.slices.proofs.Tests.{and-left, and-right, both, not-of, of-not}
 use Rattle.fdfa.proofs.Normal.{normal, Normalization, normalization}
 use Rattle.fdfa.proofs.Product.{left-below, product-complete, product-parts, product-normalized, product-closing}
-use Rattle.fdfa.proofs.Largest.{largest-le}
+use Rattle.slices.proofs.Extremes.{largest-le}
 use Rattle.fdfa.proofs.Emptiness.{answers-unique, answers-map, normalized-says, normalized-passes, same-prefix, search-answers, search-bounds}
 
 -- accepted by the first and rejected by the second

@@ -1,8 +1,5 @@
-pub mod Refusals
-pub mod Slices
 pub mod Words
 pub mod Order
-pub mod Least
 pub mod Pigeonhole
 pub mod Returns
 pub mod Normal
@@ -11,8 +8,6 @@ pub mod Product
 pub mod Complement
 pub mod Enumerated
 pub mod Pumping
-pub mod Largest
-pub mod Tests
 pub mod Emptiness
 pub mod Inclusion
 pub mod Reach

@@ -6,8 +6,8 @@ use native.Mathlib.Omega.{arith}
 use native.Mathlib.Decide.{decLt, ℕ-discrete}
 use lib.Dec.{eqb}
 use borrow.Author.Tests.{eq-eqb, ne-eqb, eqb-true}
-use Rattle.fdfa.specs.Normalization.{least}
-use Rattle.fdfa.proofs.Least.{least-le, least-passes}
+use Rattle.slices.specs.Extremes.{least}
+use Rattle.slices.proofs.Extremes.{least-le, least-passes}
 
 -- Two places of a sequence, up to n, with the same number.
 pub record Repeat (g : ℕ → ℕ) (n : ℕ) : Type 0 where

@@ -7,7 +7,7 @@ use native.Mathlib.Decide.{decLt, decLe}
 use lib.Dec.{eqb, leb}
 use borrow.Author.Tests.{eq-eqb, eqb-true, le-leb, leb-true}
 use Rattle.fdfa.specs.Normalization.{returnFrom, returning, Smallest}
-use Rattle.fdfa.proofs.Least.{least-le, least-passes, least-bound}
+use Rattle.slices.proofs.Extremes.{least-le, least-passes, least-bound}
 use Rattle.fdfa.proofs.Pigeonhole.{Repeat, pigeonhole}
 
 -- Equal numbers have equal successors, however far.

@@ -4,8 +4,9 @@ use mathlib.Core.Path.{_≡_}
 use mathlib.Core.Bool.{Bool, true, false, not, _&&_}
 use mathlib.Core.List.{List}
 use mathlib.Core.Logic.{_⊎_}
-use Prim.Native.Nat.{ℕ, zero, suc, _*_, _/_, _%_, max}
+use Prim.Native.Nat.{ℕ, zero, suc, _*_, _/_, _%_}
 use lib.Dec.{eqb}
+use Rattle.slices.specs.Extremes.{largest}
 use Rattle.fdfa.specs.Words.{Over, Before}
 use Rattle.fdfa.specs.Family.{Fdfa, walk, Lasso}
 use Rattle.fdfa.specs.Normalization.{Normalized, preperiod, periodCount}
@@ -36,11 +37,6 @@ normalized F u v = eqb (preperiod F u v) 0 && eqb (periodCount F u v) 1
 
 abbrev pub counters : Fdfa → Fdfa → List ℕ → List ℕ → Bool
 counters F G u v = normalized F u v && normalized G u v && accepts F u v && not (accepts G u v)
-
--- The largest of f 0, .., f (m − 1).
-unfoldable pub largest : ℕ → (ℕ → ℕ) → ℕ
-largest zero f = zero
-largest (suc m) f = max (largest m f) (f m)
 
 -- K of one family: the size of its largest progress automaton, over all leading states.
 abbrev pub widest : Fdfa → ℕ

@@ -7,5 +7,3 @@ pub mod Enumeration
 pub mod Inclusion
 pub mod Invariance
 pub mod OmegaWord
-pub mod Refusals
-pub mod Slices

@@ -1,17 +1,12 @@
 -- The normalization of a lasso (002, Definition 3.1; 01: the closing numbers). That i and j exist and are `Smallest` is law
 -- `normal` of proofs/Normal, and that they add up to at most n is `few-turns` there. Assumes nothing.
 use mathlib.Core.Path.{_≡_}
-use mathlib.Core.Bool.{Bool, true, false}
 use mathlib.Core.List.{List, _++_}
-use Prim.Native.Nat.{ℕ, zero, suc, _+_, _≤_}
+use Prim.Native.Nat.{ℕ, suc, _+_, _≤_}
 use lib.Dec.{eqb, leb}
+use Rattle.slices.specs.Extremes.{least}
 use Rattle.fdfa.specs.Words.{turns}
 use Rattle.fdfa.specs.Family.{Fdfa, walk}
-
--- The smallest number below m that passes the test, or m where none does.
-unfoldable pub least : ℕ → (ℕ → Bool) → ℕ
-least zero p = zero
-least (suc m) p = elim (p zero) [ true ↦ zero | false ↦ suc (least m (λ k. p (suc k))) ]
 
 -- Of a sequence g: the smallest j from 1 to n with g i = g (i + j), or n + 1 where there is none.
 unfoldable pub returnFrom : ℕ → (ℕ → ℕ) → ℕ → ℕ

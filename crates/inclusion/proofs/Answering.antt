@@ -3,13 +3,13 @@ use mathlib.Core.Path.{_≡_, ap, ap₂, sym, _∙_}
 use mathlib.Core.List.{List, _++_}
 use Prim.Native.Nat.{ℕ}
 use lib.ListN.{length, drop, replicate, length-replicate}
-use Rattle.fdfa.specs.declared.Refusal.{Refusal}
+use Rattle.slices.specs.declared.Refusal.{Refusal}
 use Rattle.fdfa.specs.Family.{Fdfa}
 use Rattle.fdfa.specs.Enumeration.{Witness}
 use Rattle.fdfa.specs.Inclusion.{Comparison}
-use Rattle.fdfa.specs.Refusals.{Fault, sound, fault, _then_, unless}
-use Rattle.fdfa.specs.Slices.{written, filled}
-use Rattle.fdfa.proofs.Refusals.{passed, failed, refuses}
+use Rattle.slices.specs.Refusals.{Fault, sound, fault, _then_, unless}
+use Rattle.slices.specs.Filling.{written, filled}
+use Rattle.slices.proofs.Refusals.{passed, failed, refuses}
 use Rattle.inclusion.specs.declared.Answer.{Answer}
 use Rattle.inclusion.specs.declared.Answer.the-variants.{Refused}
 use Rattle.inclusion.specs.Answers.{saysOf, told, toldOf, prefixOf, periodOf, roomFault, Answered}

@@ -12,14 +12,15 @@ use Rattle.fdfa.specs.Family.{Fdfa, Complete, walk}
 use Rattle.fdfa.specs.Normalization.{Normalized}
 use Rattle.fdfa.specs.Boolean.{beside, product}
 use Rattle.fdfa.specs.Enumeration.{Witness, lasso}
-use Rattle.fdfa.specs.Inclusion.{First, Counterexample, Accepted, Answers, first-is, Counts, of-none, has-it, lacks-it, Reached, widest, largest, emptiness}
+use Rattle.fdfa.specs.Inclusion.{First, Counterexample, Accepted, Answers, first-is, Counts, of-none, has-it, lacks-it, Reached, widest, emptiness}
+use Rattle.slices.specs.Extremes.{largest}
 use Rattle.fdfa.proofs.Words.{walk-closed}
 use Rattle.fdfa.proofs.Normal.{back-normalized, normalized-accepts}
 use Rattle.fdfa.proofs.Product.{beside-start}
 use Rattle.fdfa.proofs.Emptiness.{answers-unique, answers-map, emptiness-answers, empty-none}
 use Rattle.fdfa.proofs.Inclusion.{butNot, accepted-counterexample, counterexample-accepted}
 use Rattle.fdfa.proofs.Reach.{counts-unique, reached-states}
-use Rattle.packed.specs.Tables.{sum}
+use Rattle.slices.specs.Tables.{sum}
 use Rattle.packed.specs.Layout.{letterCount, stateCount, sizeOf, leadingAt, progressAt, marksAt, decode, Valid}
 use Rattle.packed.proofs.Soundness.{valid-packable}
 use Rattle.search.proofs.Work.{zeros-getD}

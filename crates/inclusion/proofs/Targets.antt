@@ -8,10 +8,10 @@ use native.Mathlib.Nat.{mod-lt}
 use lib.Dec.{eqb, ltb}
 use lib.ListN.{length, getD}
 use borrow.Author.Tests.{lt-ltb, le-ltb, ltb-true, ltb-false, eq-eqb, eqb-true, ne-eqb}
-use Rattle.fdfa.proofs.Tests.{and-left, and-right, both, of-not}
+use Rattle.slices.proofs.Tests.{and-left, and-right, both, of-not}
 use Rattle.fdfa.proofs.Product.{left-below}
-use Rattle.packed.specs.Faults.{firstOutside}
-use Rattle.packed.proofs.Scan.{all-inside}
+use Rattle.slices.specs.Scans.{firstOutside}
+use Rattle.slices.proofs.Scans.{all-inside}
 use Rattle.inclusion.specs.declared.Progress.{Progress}
 use Rattle.inclusion.specs.Tables.{ends, target, ProgressReads}
 

@@ -1,6 +1,6 @@
 -- From the cells to the letters: what is said and written of the lasso that the search found. Assumes nothing.
 use mathlib.Core.Path.{_≡_, refl, ap, ap₂, sym, subst, subst₂, _∙_}
-use mathlib.Core.Bool.{true, false, true≢false}
+use mathlib.Core.Bool.{false, true≢false}
 use mathlib.Core.List.{List}
 use Prim.Native.Nat.{ℕ, _-_, _≤_, _<_}
 use native.Mathlib.Omega.{arith}
@@ -8,16 +8,16 @@ use lib.Dec.{ltb}
 use lib.ListN.{length, take, drop, length-drop}
 use lib.Seq.{length-take-le, take-at}
 use borrow.Author.Tests.{lt-ltb, le-ltb}
-use Rattle.fdfa.specs.declared.Part.{Part}
-use Rattle.fdfa.specs.declared.Part.the-variants.{Opening, Loop}
-use Rattle.fdfa.specs.declared.Refusal.{Refusal}
+use Rattle.slices.specs.declared.Part.{Part}
+use Rattle.slices.specs.declared.Part.the-variants.{Opening, Loop}
+use Rattle.slices.specs.declared.Refusal.{Refusal}
 use Rattle.fdfa.specs.Family.{Fdfa}
 use Rattle.fdfa.specs.Enumeration.{Witness, absent, lasso}
 use Rattle.fdfa.specs.Inclusion.{Counts, Reached, Accepted, none-has, first-is}
-use Rattle.fdfa.specs.Refusals.{Fault, sound, fault, when, Result, given, unless}
-use Rattle.fdfa.specs.Slices.{written, filled}
-use Rattle.fdfa.proofs.Refusals.{when-fails, when-passes, passed, failed, refuses, gives, was-given}
-use Rattle.fdfa.proofs.Slices.{written-none}
+use Rattle.slices.specs.Refusals.{Fault, sound, fault, when, Result, given, unless}
+use Rattle.slices.specs.Filling.{written, filled}
+use Rattle.slices.proofs.Refusals.{when-fails, when-passes, passed, failed, refuses, gives, was-given}
+use Rattle.slices.proofs.Filling.{written-none}
 use Rattle.search.specs.Snoc.{Word, letters}
 use Rattle.search.specs.Paths.{Deep, Filled, FirstAt}
 use Rattle.search.proofs.Letters.{length-letters, first-letters}

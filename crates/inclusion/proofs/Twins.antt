@@ -14,7 +14,7 @@ use Rattle.fdfa.specs.Boolean.{beside, product}
 use Rattle.fdfa.specs.Inclusion.{widest}
 use Rattle.fdfa.proofs.Product.{left-below, beside-closed, product-complete}
 use Rattle.fdfa.proofs.Inclusion.{butNot}
-use Rattle.fdfa.proofs.Largest.{largest-le, largest-most}
+use Rattle.slices.proofs.Extremes.{largest-le, largest-most}
 use Rattle.packed.specs.Layout.{letterCount, stateCount, sizeOf, leadingAt, progressAt, marksAt, tableStep, decode, Valid}
 use Rattle.packed.specs.declared.Sizes.{Sizes}
 use Rattle.packed.specs.Faults.{sizesOf, BothSizes}

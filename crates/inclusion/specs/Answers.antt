@@ -5,15 +5,15 @@ use mathlib.Core.List.{List, []}
 use Prim.Native.Nat.{ℕ, _+_, _*_}
 use lib.Dec.{ltb}
 use lib.ListN.{length, take, replicate}
-use Rattle.fdfa.specs.declared.Part.the-variants.{First, Opening, Loop, Work}
+use Rattle.slices.specs.declared.Part.the-variants.{First, Opening, Loop, Work}
 use Rattle.fdfa.specs.Family.{Fdfa, Lasso}
 use Rattle.fdfa.specs.Acceptance.{accepts}
 use Rattle.fdfa.specs.Enumeration.{Witness, absent, lasso}
 use Rattle.fdfa.specs.Inclusion as model
 use Rattle.fdfa.specs.Inclusion.{Counterexample, Accepted, Counts, Reached, ReachedPair, pairs, combinations, widest}
 use Rattle.fdfa.specs.Invariance.{TurnProof}
-use Rattle.fdfa.specs.Refusals.{Fault, sound, _then_, when, Result, given, refused, unless}
-use Rattle.fdfa.specs.Slices.{filled}
+use Rattle.slices.specs.Refusals.{Fault, sound, _then_, when, Result, given, refused, unless}
+use Rattle.slices.specs.Filling.{filled}
 use Rattle.packed.specs.Layout.{decode}
 use Rattle.packed.specs.Faults.{sheetFault, pairFault}
 use Rattle.inclusion.specs.declared.Comparison.{Comparison}

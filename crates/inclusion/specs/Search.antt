@@ -6,8 +6,8 @@ use lib.ListN.{length, take, drop}
 use Rattle.fdfa.specs.Family.{Fdfa}
 use Rattle.fdfa.specs.Enumeration.{Witness, lasso}
 use Rattle.fdfa.specs.Inclusion.{Counts, Reached, Accepted, Answers, widest}
-use Rattle.fdfa.specs.Refusals.{unless}
-use Rattle.fdfa.specs.Slices.{filled}
+use Rattle.slices.specs.Refusals.{unless}
+use Rattle.slices.specs.Filling.{filled}
 use Rattle.packed.specs.Layout.{decode}
 use Rattle.search.specs.Snoc.{Word, letters}
 use Rattle.search.specs.Paths.{FirstAt, Path, Readable}

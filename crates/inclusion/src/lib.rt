@@ -3,13 +3,13 @@ mod dividing; // dividing.rt: division by a number that stays the same
 mod searching; // searching.rt: the search for the first counterexample
 mod tabulating; // tabulating.rt: pairs of states as one table
 
-use fdfa::Part;
-use fdfa::Refusal;
 use packed::Validities;
 use packed::Validity;
 use searching::find;
+use slices::Part;
+use slices::Refusal;
+use slices::refuse;
 ghost use mathlib.Core.Path.{_≡_};
-ghost use Prim.Native.Nat.{_+_, _*_, _<_};
 ghost use lib.ListN.{length, replicate};
 ghost use Rattle.fdfa.specs.Inclusion.{comparison, emptiness};
 ghost use Rattle.packed.specs.Layout.{letterCount, stateCount, decode, Valid};
@@ -57,16 +57,6 @@ pub enum Outcome {
     Missing(usize, usize, usize),
 }
 
-fn refuse(number: u8, part: Part, place: usize) -> Answer
-    ensures { λ r. ⌜ r ≡ Answer.Refused (record { number = number; part = part; place = place }) ⌝ }
-{
-    Answer::Refused(Refusal {
-        number,
-        part,
-        place,
-    })
-}
-
 // Writes the lasso with the codes i and h, where it fits.
 fn tell(
     reached: usize,
@@ -83,10 +73,10 @@ fn tell(
     let u = search::depth(&work[..n], i);
     let v = search::depth(&work[n..], h);
     if opening.len() < u {
-        return refuse(23, Part::Opening, u);
+        return Answer::Refused(refuse(23, Part::Opening, u));
     }
     if period.len() < v {
-        return refuse(23, Part::Loop, v);
+        return Answer::Refused(refuse(23, Part::Loop, v));
     }
     search::fill(&work[..n], i, u, opening);
     search::fill(&work[n..], h, v, period);
@@ -148,7 +138,7 @@ pub fn compare(
             let n = y.states * z.states;
             let cells = n + n * (y.widest * z.widest);
             if work.len() < cells {
-                return refuse(22, Part::Work, cells);
+                return Answer::Refused(refuse(22, Part::Work, cells));
             }
             let t = Beside {
                 first: 2 + y.states,
@@ -200,7 +190,7 @@ pub fn emptiness(sheet: &[u8], opening: &mut [u8], period: &mut [u8], work: &mut
         Validity::Valid(z) => {
             let cells = z.states + z.states * z.widest;
             if work.len() < cells {
-                return refuse(22, Part::Work, cells);
+                return Answer::Refused(refuse(22, Part::Work, cells));
             }
             decide_empty(
                 sheet,

@@ -5,9 +5,10 @@ use crate::Progress;
 use crate::dividing::inverse;
 use crate::dividing::quotient;
 use crate::tabulating::tabulate;
+use slices::wide16;
 ghost use mathlib.Core.Path.{_≡_};
 ghost use mathlib.Core.Bool.{true, false};
-ghost use Prim.Native.Nat.{ℕ, _+_, _*_, _/_, _%_, _≤_, _<_};
+ghost use Prim.Native.Nat.{ℕ, _+_, _*_, _≤_, _<_};
 ghost use lib.ListN.{length};
 ghost use Rattle.fdfa.specs.Boolean.{beside};
 ghost use Rattle.packed.specs.Layout.{letterCount, stateCount, tableStep, Valid};
@@ -51,12 +52,6 @@ fn expand_leads(
     codes
 }
 
-fn wide(x: u16) -> usize
-    ensures { λ r. ⌜ r ≡ x ⌝ }
-{
-    x as usize
-}
-
 // Expands a combination x of a pair of leading states and a pair of progress states, by the tables that were
 // made of both kinds of pairs. The sheets themselves are named for the contract only.
 fn expand(
@@ -83,7 +78,7 @@ fn expand(
     let mut codes = total;
     let mut a = 0;
     while a < t.letters {
-        let next = wide(leads[lead + a]) * g.count + wide(rows[progress + a]);
+        let next = wide16(leads[lead + a]) * g.count + wide16(rows[progress + a]);
         codes = search::discover(cells, codes, next, a, head);
         a += 1;
     }
@@ -122,10 +117,10 @@ fn can_end(first: &[u8], second: &[u8], g: Progress) -> bool
     requires { ⌜ ProgressReads (now first) (now second) g ⌝ }
     ensures { λ r. ⌜ (r ≡ false → (y : ℕ) → y < g .count → ends (now (first .entry)) (now (second .entry)) g y ≡ true → ⊥) ⌝ }
 {
-    if packed::first_outside(first, 0, 1, g.accepting, g.size) == g.size {
+    if slices::first_outside(first, 0, 1, g.accepting, g.size) == g.size {
         return false;
     }
-    packed::first_outside(second, 1, 2, g.rejecting, g.tables.width) < g.tables.width
+    slices::first_outside(second, 1, 2, g.rejecting, g.tables.width) < g.tables.width
 }
 
 // Whether the combination x, of code h, is back at the pair q, marked in the first and not in the second. The empty period

@@ -1,17 +1,11 @@
 // The pairs of states of two automata as one table: row p has the next pair of the pair p by each letter.
 use crate::Beside;
 use crate::searching::next_pair;
+use slices::narrow16;
 ghost use mathlib.Core.Path.{_≡_};
 ghost use Prim.Native.Nat.{_+_, _≤_, _<_};
 ghost use lib.ListN.{length};
 ghost use Rattle.inclusion.specs.Tables.{Steps, Rows, RowWritten};
-
-fn narrow(x: usize) -> u16
-    requires { ⌜ x < 65536 ⌝ }
-    ensures { λ r. ⌜ r ≡ x ⌝ }
-{
-    x as u16
-}
 
 // Writes the row of the pair p, of `count`, from `from` on.
 fn write_row(
@@ -32,7 +26,7 @@ fn write_row(
     let s = t.letters;
     let mut a = 0;
     while a < s {
-        out[from + a] = narrow(next_pair(first, second, t, x, y, a));
+        out[from + a] = narrow16(next_pair(first, second, t, x, y, a));
         a += 1;
     }
 }

@@ -7,17 +7,18 @@ use native.Mathlib.Omega.{arith}
 use lib.Dec.{eqb}
 use lib.ListN.{length, getD}
 use borrow.Author.Tests.{ne-eqb, eqb-false}
-use Rattle.fdfa.specs.declared.Part.{Part}
-use Rattle.fdfa.specs.declared.Part.the-variants.{First, Opening, Loop}
+use Rattle.slices.specs.declared.Part.{Part}
+use Rattle.slices.specs.declared.Part.the-variants.{First, Opening, Loop}
 use Rattle.fdfa.specs.Words.{Over, turns}
 use Rattle.fdfa.specs.Family.{walk, Lasso}
 use Rattle.fdfa.specs.Normalization.{returnFrom, returning, after}
 use Rattle.fdfa.specs.Acceptance.{Verdict, verdict}
-use Rattle.fdfa.specs.Refusals.{Fault, sound, _then_, when}
-use Rattle.fdfa.proofs.Refusals.{when-passes, passed, then-left, then-right, when-sound}
+use Rattle.slices.specs.Refusals.{Fault, sound, _then_, when}
+use Rattle.slices.proofs.Refusals.{when-passes, passed, then-left, then-right, when-sound}
 use Rattle.fdfa.proofs.Words.{letters-over, over-letter, walk-append}
 use Rattle.packed.specs.Layout.{letterCount, stateCount, decode, Valid}
-use Rattle.packed.specs.Faults.{scan, sheetFault}
+use Rattle.slices.specs.Scans.{scan}
+use Rattle.packed.specs.Faults.{sheetFault}
 use Rattle.packed.proofs.Soundness.{sound-valid, valid-sound, scan-sound, sound-scan}
 use Rattle.membership.specs.Verdict.{lassoFault, Closing, Ends}
 

@@ -5,15 +5,16 @@ use mathlib.Core.List.{List}
 use Prim.Native.Nat.{ℕ}
 use lib.Dec.{eqb}
 use lib.ListN.{length}
-use Rattle.fdfa.specs.declared.Part.the-variants.{First, Opening, Loop}
+use Rattle.slices.specs.declared.Part.the-variants.{First, Opening, Loop}
 use Rattle.fdfa.specs.Words.{turns}
 use Rattle.fdfa.specs.Family.{walk}
 use Rattle.fdfa.specs.Normalization.{returnFrom, returning}
 use Rattle.fdfa.specs.Acceptance.{Verdict, verdict}
-use Rattle.fdfa.specs.Refusals.{Fault, _then_, when, Result, given, refused, unless}
+use Rattle.slices.specs.Refusals.{Fault, _then_, when, Result, given, refused, unless}
 use Rattle.packed.specs.declared.Sizes.{Sizes}
 use Rattle.packed.specs.Layout.{letterCount, stateCount, leadingAt, tableStep, decode}
-use Rattle.packed.specs.Faults.{scan, sheetFault}
+use Rattle.slices.specs.Scans.{scan}
+use Rattle.packed.specs.Faults.{sheetFault}
 use Rattle.membership.specs.declared.Checked.{Checked}
 use Rattle.membership.specs.declared.Checked.the-variants as checked
 use Rattle.membership.specs.declared.Judgement.{Judgement}

@@ -1,16 +1,17 @@
 // Membership of a lasso: whether a family of DFAs accepts the pair of a prefix and a period, with its normalization.
-use fdfa::Part;
-use fdfa::Refusal;
 use packed::Sizes;
 use packed::Validity;
+use slices::Part;
+use slices::Refusal;
+use slices::refuse;
 ghost use mathlib.Core.Path.{_≡_};
 ghost use Prim.Native.Nat.{_<_};
 ghost use Rattle.fdfa.specs.Words.{Over};
 ghost use Rattle.fdfa.specs.Family.{Lasso};
-ghost use Rattle.fdfa.specs.Refusals.{unless};
+ghost use Rattle.slices.specs.Refusals.{unless};
 ghost use Rattle.packed.specs.Layout.{letterCount, stateCount, leadingAt, Valid};
 ghost use Rattle.packed.specs.Faults.{sizesOf};
-ghost use Rattle.fdfa.specs.declared.Refusal.{Refusal};
+ghost use Rattle.slices.specs.declared.Refusal.{Refusal};
 ghost use Rattle.membership.specs.Verdict.{lassoFault, judged, saysOf, checkSays, Closing, Ends};
 
 // The verdict: whether the lasso is accepted, i and j, the leading state q after u and i turns, and the state of q's
@@ -45,16 +46,6 @@ struct Ended {
     accepted: bool,
 }
 
-fn refuse(number: u8, part: Part, place: usize) -> Checked
-    ensures { λ r. ⌜ r ≡ Checked.Refused (record { number = number; part = part; place = place }) ⌝ }
-{
-    Checked::Refused(Refusal {
-        number,
-        part,
-        place,
-    })
-}
-
 // Whether sheet and lasso are good: first the sheet, then the prefix, then the period.
 pub fn check(sheet: &[u8], prefix: &[u8], period: &[u8]) -> Checked
     ensures { λ r. ⌜ checkSays r ≡ unless (lassoFault (now (sheet .entry)) (now (prefix .entry)) (now (period .entry))) (sizesOf (now (sheet .entry))) ⌝ }
@@ -64,16 +55,16 @@ pub fn check(sheet: &[u8], prefix: &[u8], period: &[u8]) -> Checked
         Validity::Refused(r) => Checked::Refused(r),
         Validity::Valid(sizes) => {
             let s = sizes.letters;
-            let i = packed::first_unknown(prefix, s);
+            let i = slices::first_unknown(prefix, s);
             if i < prefix.len() {
-                return refuse(9, Part::Opening, i);
+                return Checked::Refused(refuse(9, Part::Opening, i));
             }
             if period.len() == 0 {
-                return refuse(8, Part::Loop, 0);
+                return Checked::Refused(refuse(8, Part::Loop, 0));
             }
-            let j = packed::first_unknown(period, s);
+            let j = slices::first_unknown(period, s);
             if j < period.len() {
-                return refuse(9, Part::Loop, j);
+                return Checked::Refused(refuse(9, Part::Loop, j));
             }
             Checked::Lasso(sizes)
         }

@@ -7,11 +7,11 @@ use native.Mathlib.Omega.{arith}
 use native.Mathlib.Decide.{decLt}
 use lib.ListN.{length, getD, length-append}
 use borrow.Author.Tests.{lt-ltb, ne-eqb}
-use Rattle.fdfa.proofs.Least.{least-is}
-use Rattle.fdfa.specs.Refusals.{given}
-use Rattle.packed.specs.Faults.{outside, firstOutside}
-use Rattle.packed.proofs.Scan.{not-outside}
-use Rattle.packed.proofs.Tabulated.{getD-first, getD-second}
+use Rattle.slices.proofs.Extremes.{least-is}
+use Rattle.slices.specs.Refusals.{given}
+use Rattle.slices.specs.Scans.{outside, firstOutside}
+use Rattle.slices.proofs.Scans.{not-outside}
+use Rattle.slices.proofs.Tables.{getD-first, getD-second}
 use Rattle.notation.specs.declared.Number.the-variants.{Good}
 use Rattle.notation.specs.declared.Column.{Column}
 use Rattle.notation.specs.Text.{digits, cell}

@@ -4,10 +4,10 @@ use mathlib.Core.Bool.{Bool}
 use mathlib.Core.List.{List, [], _∷_, _++_}
 use Prim.Native.Nat.{ℕ, _+_, _<_}
 use Rattle.fdfa.specs.Family.{Fdfa, Agrees}
-use Rattle.fdfa.specs.Refusals.{given}
-use Rattle.packed.specs.Tables.{tab, rows}
+use Rattle.slices.specs.Refusals.{given}
+use Rattle.slices.specs.Tables.{tab, rows}
 use Rattle.packed.specs.Layout.{decode, mark, pack, Valid}
-use Rattle.packed.proofs.Tabulated.{tab-same, rows-same}
+use Rattle.slices.proofs.Tables.{tab-same, rows-same}
 use Rattle.packed.proofs.Packing.{decode-pack, pack-valid}
 use Rattle.notation.specs.Text.{lineOf, head, countsTitle, leadingTitle, progressTitle, leadingText, partText, progressText, textFor, textOf}
 use Rattle.notation.specs.Reading.{judged, familyOf, bytesOf}

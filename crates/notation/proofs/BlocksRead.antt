@@ -8,10 +8,10 @@ use native.Mathlib.Nat.{add-mul, add-assoc}
 use lib.Dec.{eqb}
 use lib.ListN.{length, getD, length-append}
 use borrow.Author.Tests.{eqb-true}
-use Rattle.fdfa.specs.declared.Part.the-variants.{First}
-use Rattle.fdfa.specs.Refusals.{Result, given, unless, when}
-use Rattle.packed.specs.Tables.{rows, sum}
-use Rattle.packed.proofs.Tabulated.{rows-same}
+use Rattle.slices.specs.declared.Part.the-variants.{First}
+use Rattle.slices.specs.Refusals.{Result, given, unless, when}
+use Rattle.slices.specs.Tables.{rows, sum}
+use Rattle.slices.proofs.Tables.{rows-same}
 use Rattle.notation.specs.Text.{names, head, line}
 use Rattle.notation.specs.Numerals.{skips, entry}
 use Rattle.notation.specs.Reading.{each, byteAt, literalAt, rowAt, columnOf, progressRow, namesAt, headAt, partsAt, endAt}

@@ -4,9 +4,9 @@ use mathlib.Core.List.{List, [], _∷_, _++_}
 use Prim.Native.Nat.{ℕ, _+_, _*_, _-_, _≤_, _<_}
 use native.Mathlib.Omega.{arith}
 use lib.ListN.{length, getD}
-use Rattle.packed.specs.Tables.{tab, rows}
+use Rattle.slices.specs.Tables.{tab, rows}
 use Rattle.packed.specs.Layout.{letterCount, stateCount, sizeOf, leadingAt, progressAt, decode, Valid}
-use Rattle.packed.proofs.Tabulated.{length-tab, tab-getD}
+use Rattle.slices.proofs.Tables.{length-tab, tab-getD}
 use Rattle.packed.proofs.Bounds.{progress-first, progress-upto}
 use Rattle.packed.proofs.Reading.{part-of}
 use Rattle.notation.specs.Text.{names, head, lineOf, countsTitle, leadingTitle, progressTitle, countsText, leadingText, partText}

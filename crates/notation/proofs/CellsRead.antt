@@ -8,11 +8,11 @@ use native.Mathlib.Decide.{ℕ-discrete}
 use lib.Dec.{eqb, ltb}
 use lib.ListN.{length, getD, length-append}
 use borrow.Author.Tests.{ltb-true, eqb-true}
-use Rattle.fdfa.specs.declared.Part.the-variants.{First}
-use Rattle.fdfa.specs.declared.Refusal.{Refusal}
-use Rattle.fdfa.specs.Refusals.{Result, given, refused, unless, when}
-use Rattle.packed.specs.Faults.{outside}
-use Rattle.packed.proofs.Scan.{inside}
+use Rattle.slices.specs.declared.Part.the-variants.{First}
+use Rattle.slices.specs.declared.Refusal.{Refusal}
+use Rattle.slices.specs.Refusals.{Result, given, refused, unless, when}
+use Rattle.slices.specs.Scans.{outside}
+use Rattle.slices.proofs.Scans.{inside}
 use Rattle.notation.specs.declared.Number.{Number}
 use Rattle.notation.specs.declared.Number.the-variants.{Good, Bad}
 use Rattle.notation.specs.declared.Column.{Column}

@@ -7,7 +7,7 @@ use native.Mathlib.Omega.{arith}
 use lib.Dec.{ltb}
 use lib.ListN.{length, length-append}
 use borrow.Author.Tests.{lt-ltb, le-ltb}
-use Rattle.packed.specs.Tables.{rows}
+use Rattle.slices.specs.Tables.{rows}
 use Rattle.notation.specs.Text.{digits, separator, cell}
 use Rattle.notation.specs.Writing.{Stored}
 use Rattle.notation.proofs.Stores.{length-rows-le, stored-then, stored-as}

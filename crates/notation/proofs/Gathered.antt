@@ -5,9 +5,9 @@ use Prim.Native.Nat.{ℕ, _+_, _*_, _-_, _≤_, _<_}
 use native.Mathlib.Omega.{arith}
 use native.Mathlib.Nat.{add-mul, mul-add, mul-one}
 use lib.ListN.{length, set, length-set}
-use Rattle.packed.specs.Tables.{tab, sum}
-use Rattle.packed.specs.Layout.{mark, table, frontBytes, partBytes}
-use Rattle.packed.proofs.Tabulated.{tab-same, rows-same}
+use Rattle.slices.specs.Tables.{tab, sum, table}
+use Rattle.packed.specs.Layout.{mark, frontBytes, partBytes}
+use Rattle.slices.proofs.Tables.{tab-same, rows-same}
 use Rattle.packed.proofs.Packing.{length-front, length-part}
 use Rattle.notation.specs.Numerals.{skips, entry}
 use Rattle.notation.specs.Reading.{lettersIn, statesIn, leadIn, progressIn, progressEntry, familyOf, Readable}

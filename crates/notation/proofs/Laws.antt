@@ -5,13 +5,13 @@ use Prim.Native.Nat.{ℕ, _+_, _<_}
 use native.Mathlib.Omega.{arith}
 use lib.Dec.{ltb}
 use lib.ListN.{length, length-append}
-use Rattle.fdfa.specs.declared.Part.the-variants.{Out}
+use Rattle.slices.specs.declared.Part.the-variants.{Out}
 use Rattle.fdfa.specs.Family.{Fdfa, Agrees}
-use Rattle.fdfa.specs.Refusals.{Fault, sound, fault, _then_, when, Result, given, refused}
-use Rattle.fdfa.proofs.Refusals.{passed, then-left}
-use Rattle.packed.specs.Tables.{tab, rows, sum}
-use Rattle.packed.specs.Layout.{decode, mark, table, partBytes, pack, Valid}
-use Rattle.packed.proofs.Tabulated.{tab-same, rows-same, length-rows, sum-same}
+use Rattle.slices.specs.Refusals.{Fault, sound, fault, _then_, when, Result, given, refused}
+use Rattle.slices.proofs.Refusals.{passed, then-left}
+use Rattle.slices.specs.Tables.{tab, rows, sum, table}
+use Rattle.packed.specs.Layout.{decode, mark, partBytes, pack, Valid}
+use Rattle.slices.proofs.Tables.{tab-same, rows-same, length-rows, sum-same}
 use Rattle.packed.proofs.Soundness.{valid-packable}
 use Rattle.packed.proofs.Packing.{pack-decode}
 use Rattle.notation.specs.Text.{digits, cell, separator, line, lineOf, names, head, countsTitle, leadingTitle, progressTitle, countsText, leadingText, partText, progressText, textFor, textOf}

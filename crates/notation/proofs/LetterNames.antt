@@ -6,8 +6,8 @@ use native.Mathlib.Omega.{arith}
 use native.Mathlib.Nat.{add-suc, add-zero}
 use native.Mathlib.Decide.{decLt}
 use lib.ListN.{length, getD, length-append}
-use Rattle.packed.specs.Tables.{tab, rows}
-use Rattle.packed.proofs.Tabulated.{getD-first, tab-same, tab-getD}
+use Rattle.slices.specs.Tables.{tab, rows}
+use Rattle.slices.proofs.Tables.{getD-first, tab-same, tab-getD}
 use Rattle.notation.specs.Text.{digits, names}
 use Rattle.notation.proofs.Decimal.{digits-one, digits-two}
 

@@ -7,8 +7,8 @@ use native.Mathlib.Omega.{arith}
 use native.Mathlib.Nat.{suc-mul, add-mul, add-assoc}
 use lib.Dec.{eqb}
 use lib.ListN.{length, getD, length-append}
-use Rattle.fdfa.specs.Refusals.{given}
-use Rattle.packed.specs.Tables.{rows, sum}
+use Rattle.slices.specs.Refusals.{given}
+use Rattle.slices.specs.Tables.{rows, sum}
 use Rattle.notation.specs.declared.Row.{Row}
 use Rattle.notation.specs.Text.{cell, separator, line, names, head}
 use Rattle.notation.specs.Numerals.{numberAt, skip, skips, entry, valueIn}

@@ -7,10 +7,10 @@ use native.Mathlib.Numerals.{add-one}
 use native.Mathlib.Nat.{mul-le-mul, suc-mul, le-refl}
 use native.Mathlib.Decide.{ℕ-discrete}
 use lib.ListN.{length, length-append}
-use Rattle.packed.specs.Tables.{rows, sum}
+use Rattle.slices.specs.Tables.{rows, sum}
 use Rattle.packed.specs.Layout.{frontBytes, partBytes}
-use Rattle.packed.proofs.Tabulated.{length-rows, sum-same}
-use Rattle.packed.proofs.Bounds.{sum-le, few-both, part-few}
+use Rattle.slices.proofs.Tables.{length-rows, sum-same, sum-le}
+use Rattle.packed.proofs.Bounds.{few-both, part-few}
 use Rattle.packed.proofs.Packing.{length-front, length-part}
 use Rattle.notation.specs.Reading.{lettersIn, statesIn, familyOf, Readable, bytesOf}
 

@@ -7,10 +7,10 @@ use native.Mathlib.Omega.{arith}
 use lib.Dec.{eqb}
 use lib.ListN.{length, getD, length-append}
 use borrow.Author.Tests.{ne-eqb}
-use Rattle.fdfa.specs.Refusals.{given}
-use Rattle.packed.specs.Tables.{tab, rows}
+use Rattle.slices.specs.Refusals.{given}
+use Rattle.slices.specs.Tables.{tab, rows}
 use Rattle.packed.specs.Layout.{mark}
-use Rattle.packed.proofs.Tabulated.{length-tab, getD-tab, rows-same}
+use Rattle.slices.proofs.Tables.{length-tab, getD-tab, rows-same}
 use Rattle.notation.specs.declared.Column.{Column}
 use Rattle.notation.specs.Text.{names, head, line, lineOf, countsTitle, leadingTitle, progressTitle, countsText, leadingText, partText, progressText, textFor}
 use Rattle.notation.specs.Numerals.{skips, entry}

@@ -7,12 +7,12 @@ use native.Mathlib.Omega.{arith}
 use lib.Dec.{eqb}
 use lib.ListN.{length, getD, length-append}
 use borrow.Author.Tests.{eq-eqb}
-use Rattle.fdfa.specs.declared.Part.the-variants.{First}
+use Rattle.slices.specs.declared.Part.the-variants.{First}
 use Rattle.fdfa.specs.Family.{Fdfa, Agrees}
-use Rattle.fdfa.specs.Refusals.{given, unless, when}
-use Rattle.packed.specs.Tables.{tab, rows, sum}
+use Rattle.slices.specs.Refusals.{given, unless, when}
+use Rattle.slices.specs.Tables.{tab, rows, sum}
 use Rattle.packed.specs.Layout.{mark, Packable}
-use Rattle.packed.proofs.Tabulated.{length-tab, getD-tab, rows-same, sum-same}
+use Rattle.slices.proofs.Tables.{length-tab, getD-tab, rows-same, sum-same}
 use Rattle.notation.specs.declared.Column.{Column}
 use Rattle.notation.specs.Text.{names, head, line, lineOf, countsTitle, leadingTitle, progressTitle, countsText, leadingText, partText, progressText, textFor}
 use Rattle.notation.specs.Numerals.{skips, entry}

@@ -5,8 +5,8 @@ use Prim.Native.Nat.{ℕ, zero, suc, _+_, _*_, _-_, _≤_, _<_}
 use native.Mathlib.Omega.{arith}
 use native.Mathlib.Nat.{add-zero, add-suc, suc-mul}
 use lib.ListN.{length}
-use Rattle.fdfa.specs.Refusals.{given}
-use Rattle.packed.specs.Tables.{rows}
+use Rattle.slices.specs.Refusals.{given}
+use Rattle.slices.specs.Tables.{rows}
 use Rattle.notation.specs.declared.Row.{Row}
 use Rattle.notation.specs.Text.{cell, separator, line}
 use Rattle.notation.specs.Numerals.{numberAt, skip, skips, entry, valueIn}

@@ -7,10 +7,10 @@ use native.Mathlib.Omega.{arith}
 use lib.Dec.{eqb, ltb}
 use lib.ListN.{length, getD}
 use borrow.Author.Tests.{le-leb, lt-leb, ltb-false, eqb-false}
-use Rattle.fdfa.specs.Normalization.{least}
-use Rattle.fdfa.proofs.Least.{least-before, least-bound}
-use Rattle.packed.specs.Faults.{outside, firstOutside}
-use Rattle.packed.proofs.Scan.{inside}
+use Rattle.slices.specs.Extremes.{least}
+use Rattle.slices.proofs.Extremes.{least-before, least-bound}
+use Rattle.slices.specs.Scans.{outside, firstOutside}
+use Rattle.slices.proofs.Scans.{inside}
 use Rattle.notation.specs.declared.Number.the-variants.{Good, Bad}
 use Rattle.notation.specs.Numerals.{runOf, valueOf, malformed, numberAt, skip}
 

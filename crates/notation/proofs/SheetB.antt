@@ -2,7 +2,7 @@
 use mathlib.Core.Path.{_≡_, refl}
 use mathlib.Core.List.{List, [], _∷_, _++_}
 use Prim.Native.Nat.{ℕ}
-use Rattle.packed.specs.Tables.{tab, rows, sum}
+use Rattle.slices.specs.Tables.{tab, rows, sum}
 use Rattle.packed.specs.Layout.{progressAt}
 use Rattle.notation.specs.Text.{digits, textOf}
 

@@ -6,9 +6,9 @@ use native.Mathlib.Omega.{arith}
 use lib.Dec.{eqb}
 use lib.ListN.{getD}
 use borrow.Author.Tests.{le-leb}
-use Rattle.packed.specs.Tables.{tab, rows}
+use Rattle.slices.specs.Tables.{tab, rows}
 use Rattle.packed.specs.Layout.{letterCount, stateCount, sizeOf, leadingAt, progressAt, marksAt, tableStep, decode, mark, Valid}
-use Rattle.packed.proofs.Tabulated.{length-tab, getD-tab, rows-same}
+use Rattle.slices.proofs.Tables.{length-tab, getD-tab, rows-same}
 use Rattle.notation.specs.declared.Line.{Line}
 use Rattle.notation.specs.declared.Lines.{Lines}
 use Rattle.notation.specs.Text.{cell, separator, line, lineOf, partText}

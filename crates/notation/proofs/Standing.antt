@@ -7,8 +7,8 @@ use native.Mathlib.Nat.{add-assoc}
 use native.Mathlib.Decide.{decLt}
 use lib.ListN.{length, getD, length-append}
 use lib.Seq.{ext-getD}
-use Rattle.packed.specs.Tables.{rows}
-use Rattle.packed.proofs.Tabulated.{getD-first, getD-second}
+use Rattle.slices.specs.Tables.{rows}
+use Rattle.slices.proofs.Tables.{getD-first, getD-second}
 
 -- x stands at p.
 pub record At (t : List ℕ) (p : ℕ) (x : List ℕ) : Type 0 where

@@ -6,9 +6,9 @@ use native.Mathlib.Omega.{arith}
 use native.Mathlib.Numerals.{add-one}
 use lib.ListN.{length, getD}
 use borrow.Author.Tests.{lt-ltb, le-ltb, le-leb, lt-leb, eq-eqb, ne-eqb}
-use Rattle.fdfa.specs.declared.Part.the-variants.{First}
-use Rattle.fdfa.specs.declared.Refusal.{Refusal}
-use Rattle.fdfa.specs.Refusals.{Result, given, refused}
+use Rattle.slices.specs.declared.Part.the-variants.{First}
+use Rattle.slices.specs.declared.Refusal.{Refusal}
+use Rattle.slices.specs.Refusals.{Result, given, refused}
 use Rattle.notation.specs.declared.Number.the-variants.{Good, Bad}
 use Rattle.notation.specs.declared.Column.{Column}
 use Rattle.notation.specs.Numerals.{numberAt}

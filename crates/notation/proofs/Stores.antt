@@ -6,10 +6,9 @@ use native.Mathlib.Omega.{arith}
 use native.Mathlib.Numerals.{add-one}
 use lib.ListN.{length, drop, set, length-append}
 use lib.Seq.{sets, length-sets, sets-eq, set-out}
-use Rattle.fdfa.specs.Slices.{written}
-use Rattle.packed.specs.Tables.{tab, rows}
-use Rattle.packed.proofs.Tabulated.{length-rows}
-use Rattle.packed.proofs.Bounds.{sum-le}
+use Rattle.slices.specs.Filling.{written}
+use Rattle.slices.specs.Tables.{tab, rows}
+use Rattle.slices.proofs.Tables.{length-rows, sum-le}
 use Rattle.notation.specs.Writing.{Stored}
 
 pub sets-append : (x y l : List ℕ) (at : ℕ) → sets l at (x ++ y) ≡ sets (sets l at x) (at + length x) y

@@ -4,7 +4,7 @@ use mathlib.Core.List.{List}
 use Prim.Native.Nat.{ℕ, _≤_, _<_}
 use native.Mathlib.Omega.{arith}
 use lib.ListN.{length, getD}
-use Rattle.packed.proofs.Tabulated.{getD-tab}
+use Rattle.slices.proofs.Tables.{getD-tab}
 use Rattle.notation.specs.Text.{names}
 use Rattle.notation.specs.Reading.{byteAt, literalAt}
 use Rattle.notation.proofs.LetterNames.{allNames, names-part}

@@ -2,20 +2,18 @@
 use mathlib.Core.Bool.{cond, _&&_, not}
 use mathlib.Core.List.{List}
 use Prim.Native.Nat.{ℕ, zero, suc, _+_, _*_, _<_}
-use Rattle.packed.specs.Tables.{sum}
+use Rattle.slices.specs.Tables.{sum}
 use lib.Dec.{eqb, ltb}
 use lib.ListN.{length, getD}
-use Rattle.fdfa.specs.declared.Part.the-variants.{First, Out}
+use Rattle.slices.specs.declared.Part.the-variants.{First, Out}
 use Rattle.fdfa.specs.Family.{Fdfa}
-use Rattle.fdfa.specs.Refusals.{Fault, sound, fault, _then_, when, Result, given, refused, unless}
+use Rattle.slices.specs.Refusals.{Fault, sound, fault, _then_, when, Result, given, refused, unless}
 use Rattle.packed.specs.Layout.{pack, Packable}
-use Rattle.packed.specs.Faults.{outside}
+use Rattle.slices.specs.Scans.{outside}
 use Rattle.notation.specs.declared.Number.{Number}
 use Rattle.notation.specs.declared.Number.the-variants.{Good, Bad}
 use Rattle.notation.specs.declared.Step.{Step}
 use Rattle.notation.specs.declared.Step.the-variants as step
-use Rattle.notation.specs.declared.Reading.{Reading}
-use Rattle.notation.specs.declared.Reading.the-variants as reading
 use Rattle.notation.specs.declared.Column.{Column}
 use Rattle.notation.specs.declared.Row.{Row}
 use Rattle.notation.specs.Text.{separator, names, countsTitle, leadingTitle, progressTitle}
@@ -169,11 +167,7 @@ faultOf (refused r) = fault r
 abbrev pub readFault : List ℕ → ℕ → Fault
 readFault t room = faultOf (judged t) then when (ltb room (length (bytesOf t))) 21 Out (length (bytesOf t))
 
--- The answers of the code, by cases.
+-- The answer of the code, by cases.
 abbrev pub stepSays : Step → Result ℕ
 stepSays (step.Next at) = given at
 stepSays (step.Refused r) = refused r
-
-abbrev pub saysOf : Reading → Result ℕ
-saysOf (reading.Filled n) = given n
-saysOf (reading.Refused r) = refused r

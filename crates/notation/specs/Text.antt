@@ -6,7 +6,7 @@ use Prim.Native.Nat.{ℕ, _+_, _/_, _%_}
 use lib.Dec.{eqb, ltb}
 use lib.ListN.{length, getD}
 use Rattle.fdfa.specs.Family.{Fdfa}
-use Rattle.packed.specs.Tables.{tab, rows}
+use Rattle.slices.specs.Tables.{tab, rows}
 use Rattle.packed.specs.Layout.{decode, mark}
 
 -- A number below 1000 in the digits that it needs, as ASCII.

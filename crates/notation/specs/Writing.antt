@@ -6,9 +6,9 @@ use Prim.Native.Nat.{ℕ, _+_, _*_, _-_, _≤_, _<_}
 use lib.Dec.{eqb, ltb, leb}
 use lib.ListN.{length, getD}
 use lib.Seq.{sets}
-use Rattle.fdfa.specs.declared.Part.the-variants.{First, Out}
-use Rattle.fdfa.specs.Refusals.{Fault, _then_, when}
-use Rattle.packed.specs.Tables.{rows}
+use Rattle.slices.specs.declared.Part.the-variants.{First, Out}
+use Rattle.slices.specs.Refusals.{Fault, _then_, when}
+use Rattle.slices.specs.Tables.{rows}
 use Rattle.packed.specs.Faults.{sheetFault}
 use Rattle.notation.specs.declared.Line.{Line}
 use Rattle.notation.specs.declared.Lines.{Lines}

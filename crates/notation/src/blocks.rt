@@ -6,9 +6,10 @@ use crate::judging::head;
 use crate::judging::literal;
 use crate::judging::read_row;
 use crate::judging::read_rows;
-use crate::judging::refuse;
 use crate::numbers::entry;
 use crate::writing::names_len;
+use slices::Part;
+use slices::refuse;
 ghost use mathlib.Core.Path.{_≡_};
 ghost use Prim.Native.Nat.{_≤_, _<_};
 ghost use lib.ListN.{length};
@@ -168,7 +169,7 @@ fn ended(text: &[u8], at: usize) -> Step
     if at == text.len() {
         return Step::Next(at);
     }
-    refuse(11, at)
+    Step::Refused(refuse(11, Part::First, at))
 }
 
 // Where the leading rows begin, after a row of counts that ends at `at`.

@@ -4,21 +4,15 @@ use crate::blocks::size_in;
 use crate::numbers::entry;
 use crate::numbers::skips;
 use crate::writing::names_len;
+use slices::narrow;
 ghost use mathlib.Core.Path.{_≡_};
 ghost use Prim.Native.Nat.{ℕ, _+_, _*_, _≤_, _<_};
 ghost use lib.ListN.{length};
-ghost use Rattle.packed.specs.Tables.{tab, rows, sum};
-ghost use Rattle.packed.specs.Layout.{table, frontBytes, partBytes};
+ghost use Rattle.slices.specs.Tables.{tab, rows, sum, table};
+ghost use Rattle.packed.specs.Layout.{frontBytes, partBytes};
 ghost use Rattle.notation.specs.Numerals.{skips, entry};
 ghost use Rattle.notation.specs.Reading.{lettersIn, statesIn, leadIn, progressIn, familyOf, Readable, bytesOf};
 ghost use Rattle.notation.specs.Writing.{Stored};
-
-fn narrow(x: usize) -> u8
-    requires { ⌜ x < 256 ⌝ }
-    ensures { λ r. ⌜ r ≡ x ⌝ }
-{
-    (x % 256) as u8
-}
 
 // Numbers of the text, `stride` apart.
 fn gather(text: &[u8], at: usize, stride: usize, count: usize, out: &mut [u8], to: usize) -> usize

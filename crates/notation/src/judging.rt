@@ -6,35 +6,24 @@ use crate::Step;
 use crate::numbers::number_at;
 use crate::writing::names_len;
 use crate::writing::separator;
-use fdfa::Part;
-use fdfa::Refusal;
+use slices::Part;
+use slices::refuse;
 ghost use mathlib.Core.Path.{_≡_};
-ghost use Prim.Native.Nat.{_+_, _≤_, _<_};
+ghost use Prim.Native.Nat.{_≤_, _<_};
 ghost use lib.ListN.{length};
-ghost use Rattle.fdfa.specs.declared.Part.the-variants.{First};
 ghost use Rattle.notation.specs.Reading.{_andThen_, each, byteAt, literalAt, cellAt, columnOf, rowAt, due, turnedOf, namesAt, stepSays};
-
-pub fn refuse(number: u8, place: usize) -> Step
-    ensures { λ r. ⌜ r ≡ Step.Refused (record { number = number; part = First; place = place }) ⌝ }
-{
-    Step::Refused(Refusal {
-        number,
-        part: Part::First,
-        place,
-    })
-}
 
 // The byte that is due at a place.
 fn byte(text: &[u8], at: usize, c: u8) -> Step
     ensures { λ r. ⌜ stepSays r ≡ byteAt (now (text .entry)) c at ⌝ }
 {
     if text.len() <= at {
-        return refuse(11, at);
+        return Step::Refused(refuse(11, Part::First, at));
     }
     if text[at] == c {
         return Step::Next(at + 1);
     }
-    refuse(11, at)
+    Step::Refused(refuse(11, Part::First, at))
 }
 
 // The first `count` bytes of a fixed text.
@@ -65,13 +54,13 @@ fn cell(text: &[u8], at: usize, column: Column, end: u8) -> Step
 {
     let found = number_at(text, at);
     match found {
-        Number::Bad(place) => refuse(11, place),
+        Number::Bad(place) => Step::Refused(refuse(11, Part::First, place)),
         Number::Good(v, e) => {
             if v < column.low {
-                return refuse(column.number, at);
+                return Step::Refused(refuse(column.number, Part::First, at));
             }
             if column.limit <= v {
-                return refuse(column.number, at);
+                return Step::Refused(refuse(column.number, Part::First, at));
             }
             byte(text, e, end)
         }

@@ -1,14 +1,16 @@
 // The sheet as text: lines of numbers under lines of names. Reading judges the whole text before it fills a cell;
 // writing knows the length before it fills one.
-use fdfa::Part;
-use fdfa::Refusal;
 use packed::Validity;
+use slices::Part;
+use slices::Refusal;
+use slices::Written;
+use slices::refuse;
 ghost use mathlib.Core.Path.{_≡_};
 ghost use lib.ListN.{length};
-ghost use Rattle.fdfa.specs.Refusals.{unless};
-ghost use Rattle.fdfa.specs.Slices.{filled};
+ghost use Rattle.slices.specs.Refusals.{unless, writtenSays};
+ghost use Rattle.slices.specs.Filling.{filled};
 ghost use Rattle.notation.specs.Text.{textOf};
-ghost use Rattle.notation.specs.Reading.{bytesOf, readFault, saysOf};
+ghost use Rattle.notation.specs.Reading.{bytesOf, readFault};
 ghost use Rattle.notation.specs.Writing.{writeFault};
 
 pub mod numbers; // numbers.rt: a number at a place of a text
@@ -33,12 +35,6 @@ pub struct Reader<'a> {
 // How reading goes on: at the next place, or not at all.
 pub enum Step {
     Next(usize),
-    Refused(Refusal),
-}
-
-// What a call that fills the out slice answers: the length filled, or the refusal.
-pub enum Reading {
-    Filled(usize),
     Refused(Refusal),
 }
 
@@ -80,52 +76,44 @@ pub struct Lines {
 }
 
 // Writes the text of a packed sheet into the out slice, from its start.
-pub fn write(sheet: &[u8], out: &mut [u8]) -> Reading
-    ensures { λ r. ⌜ saysOf r ≡ unless (writeFault (now (sheet .entry)) (length (now (out .entry)))) (length (textOf (now (sheet .entry)))) ⌝ }
+pub fn write(sheet: &[u8], out: &mut [u8]) -> Written
+    ensures { λ r. ⌜ writtenSays r ≡ unless (writeFault (now (sheet .entry)) (length (now (out .entry)))) (length (textOf (now (sheet .entry)))) ⌝ }
     ensures { λ r. ⌜ now (out .exit) ≡ filled (writeFault (now (sheet .entry)) (length (now (out .entry)))) (textOf (now (sheet .entry))) (now (out .entry)) ⌝ }
 {
     let validity = packed::check(sheet, Part::First);
     match validity {
-        Validity::Refused(r) => Reading::Refused(r),
+        Validity::Refused(r) => Written::Refused(r),
         Validity::Valid(sizes) => {
             let s = sizes.letters;
             let n = sizes.states;
             let need = writing::put_sheet(sheet, s, n, &mut out[..0]);
             if out.len() < need {
-                return Reading::Refused(Refusal {
-                    number: 21,
-                    part: Part::Out,
-                    place: need,
-                });
+                return Written::Refused(refuse(21, Part::Out, need));
             }
             writing::put_sheet(sheet, s, n, out);
-            Reading::Filled(need)
+            Written::Filled(need)
         }
     }
 }
 
 // Reads the text of a sheet: the packed sheet, in the out slice from its start.
-pub fn read(text: &[u8], out: &mut [u8]) -> Reading
-    ensures { λ r. ⌜ saysOf r ≡ unless (readFault (now (text .entry)) (length (now (out .entry)))) (length (bytesOf (now (text .entry)))) ⌝ }
+pub fn read(text: &[u8], out: &mut [u8]) -> Written
+    ensures { λ r. ⌜ writtenSays r ≡ unless (readFault (now (text .entry)) (length (now (out .entry)))) (length (bytesOf (now (text .entry)))) ⌝ }
     ensures { λ r. ⌜ now (out .exit) ≡ filled (readFault (now (text .entry)) (length (now (out .entry)))) (bytesOf (now (text .entry))) (now (out .entry)) ⌝ }
 {
     let judged = blocks::judge(text);
     match judged {
-        Step::Refused(r) => Reading::Refused(r),
+        Step::Refused(r) => Written::Refused(r),
         Step::Next(_) => {
             let s = numbers::entry(text, 20, 1);
             let n = numbers::entry(text, 20, 2);
             let lead = blocks::lead_at(s, numbers::skips(text, 20, 3));
             let need = filling::needed(text, s, n, lead);
             if out.len() < need {
-                return Reading::Refused(Refusal {
-                    number: 21,
-                    part: Part::Out,
-                    place: need,
-                });
+                return Written::Refused(refuse(21, Part::Out, need));
             }
             filling::fill(text, s, n, lead, out);
-            Reading::Filled(need)
+            Written::Filled(need)
         }
     }
 }

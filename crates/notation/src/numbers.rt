@@ -1,15 +1,10 @@
 // A number at a place of a text: a run of digits, at most three, with no needless leading zero.
 use crate::Number;
+use slices::wide;
 ghost use mathlib.Core.Path.{_≡_};
 ghost use Prim.Native.Nat.{ℕ, _+_, _-_, _≤_, _<_};
 ghost use lib.ListN.{length, getD};
 ghost use Rattle.notation.specs.Numerals.{runOf, valueOf, malformed, numberAt, skip, skips, entry};
-
-pub fn wide(x: u8) -> usize
-    ensures { λ r. ⌜ r ≡ x ⌝ }
-{
-    x as usize
-}
 
 // How many digits stand from a place on.
 fn run(text: &[u8], at: usize) -> usize
@@ -19,7 +14,7 @@ fn run(text: &[u8], at: usize) -> usize
     if len <= at {
         return 0;
     }
-    packed::first_outside(text, 48, 58, at, len - at)
+    slices::first_outside(text, 48, 58, at, len - at)
 }
 
 fn digit_at(text: &[u8], at: usize) -> usize

@@ -2,12 +2,12 @@
 // empty slice.
 use crate::Line;
 use crate::Lines;
-use crate::numbers::wide;
+use slices::wide;
 ghost use mathlib.Core.Path.{_≡_};
 ghost use mathlib.Core.List.{_∷_, [], _++_};
 ghost use Prim.Native.Nat.{_+_, _≤_, _<_};
 ghost use lib.ListN.{length, getD};
-ghost use Rattle.packed.specs.Tables.{tab};
+ghost use Rattle.slices.specs.Tables.{tab};
 ghost use Rattle.packed.specs.Layout.{letterCount, stateCount, decode, Valid};
 ghost use Rattle.notation.specs.Text.{cell, separator, names, countsText, leadingText, partText, progressText, textOf};
 ghost use Rattle.notation.specs.Writing.{Stored, lineValue, lineText, Writable, lineIn, linesText, AllWritable};

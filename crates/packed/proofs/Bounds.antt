@@ -3,17 +3,12 @@ use mathlib.Core.Path.{_≡_, ap, _∙_}
 use mathlib.Core.List.{List}
 use Prim.Native.Nat.{ℕ, zero, suc, _+_, _*_, _-_, _≤_, _<_}
 use native.Mathlib.Omega.{arith}
-use native.Mathlib.Nat.{mul-le-mul, suc-mul, mul-one, mul-add, le-refl}
+use native.Mathlib.Nat.{mul-le-mul, mul-one, mul-add, le-refl}
 use native.Mathlib.Numerals.{add-one}
 use lib.ListN.{length}
-use Rattle.packed.specs.Tables.{sum}
+use Rattle.slices.specs.Tables.{sum}
+use Rattle.slices.proofs.Tables.{sum-le}
 use Rattle.packed.specs.Layout.{letterCount, stateCount, sizeOf, leadingAt, progressAt, marksAt, sheetLength, Header}
-
-pub sum-le : (m : ℕ) (f : ℕ → ℕ) (c : ℕ) → ((q : ℕ) → q < m → f q ≤ c) → sum m f ≤ m * c
-unfolding sum
-sum-le zero f c h = omega arith
-sum-le (suc m) f c h =
-    omega (arith, sum-le m f c (λ q l. h q (omega arith)), h m (omega arith), suc-mul m c)
 
 -- a product of two counts
 pub few-both : {a b : ℕ} → a ≤ 32 → b ≤ 32 → a * b ≤ 1024

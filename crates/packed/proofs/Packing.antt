@@ -11,12 +11,12 @@ use lib.Dec.{eqb}
 use lib.ListN.{length, getD, take, drop, length-append, length-drop}
 use lib.Seq.{take-at, getD-take, getD-drop, length-take-le, ext-getD}
 use Rattle.fdfa.specs.Family.{Fdfa, Agrees}
-use Rattle.packed.specs.Tables.{tab, rows, sum}
-use Rattle.packed.specs.Layout.{letterCount, stateCount, sizeOf, progressAt, marksAt, sheetLength, decode, mark, table, frontBytes, partBytes, pack, Packable, Valid}
+use Rattle.slices.specs.Tables.{tab, rows, sum, table}
+use Rattle.packed.specs.Layout.{letterCount, stateCount, sizeOf, progressAt, marksAt, sheetLength, decode, mark, frontBytes, partBytes, pack, Packable, Valid}
 use Rattle.packed.proofs.Bounds.{progress-first}
 use Rattle.packed.proofs.Reading.{part-of}
 use Rattle.packed.proofs.Soundness.{valid-packable}
-use Rattle.packed.proofs.Tabulated.{length-tab, getD-first, getD-second, getD-tab, tab-getD, tab-same, rows-same, tab-append, rows-tab, sum-same, table-tab, length-rows, getD-rows, length-table, getD-table}
+use Rattle.slices.proofs.Tables.{length-tab, getD-first, getD-second, getD-tab, tab-getD, tab-same, rows-same, tab-append, rows-tab, sum-same, table-tab, length-rows, getD-rows, length-table, getD-table}
 
 -- a mark says its byte
 mark-byte : (x : ℕ) → x < 2 → mark (eqb x 1) ≡ x

@@ -1,6 +1,6 @@
 -- A sheet is refused for nothing exactly if it is valid. Assumes nothing.
 use mathlib.Core.Path.{_≡_, refl, ap, sym, subst, _∙_}
-use mathlib.Core.Bool.{true, false, not, true≢false}
+use mathlib.Core.Bool.{true, not, true≢false}
 use mathlib.Core.List.{List}
 use Prim.Native.Nat.{ℕ, zero, suc, _+_, _*_, _/_, _%_, _≤_, _<_}
 use native.Mathlib.Omega.{arith}
@@ -10,16 +10,17 @@ use lib.Arith.{digits-lt}
 use lib.Dec.{ltb, eqb}
 use lib.ListN.{length, getD}
 use borrow.Author.Tests.{le-ltb, ltb-false, eq-eqb, eqb-true, not-false}
-use Rattle.fdfa.specs.declared.Part.{Part}
-use Rattle.fdfa.specs.declared.Part.the-variants.{First, Second}
+use Rattle.slices.specs.declared.Part.{Part}
+use Rattle.slices.specs.declared.Part.the-variants.{First, Second}
 use Rattle.fdfa.specs.Family.{Closed}
-use Rattle.fdfa.specs.Refusals.{Fault, sound, _then_, when, given}
-use Rattle.fdfa.proofs.Least.{least-none}
-use Rattle.fdfa.proofs.Refusals.{when-passes, passed, then-left, then-right, when-sound, gives, was-given}
+use Rattle.slices.specs.Refusals.{Fault, sound, _then_, when, given}
+use Rattle.slices.proofs.Extremes.{least-none}
+use Rattle.slices.proofs.Refusals.{when-passes, passed, then-left, then-right, when-sound, gives, was-given}
 use Rattle.packed.specs.declared.Sizes.{Sizes}
 use Rattle.packed.specs.Layout.{letterCount, stateCount, sizeOf, leadingAt, progressAt, marksAt, sheetLength, tableStep, decode, Packable, Header, Valid}
-use Rattle.packed.specs.Faults.{outside, firstOutside, scan, progressFault, sheetFault, secondFault, pairFault, sizesOf, checked}
-use Rattle.packed.proofs.Scan.{inside, not-outside, all-inside, scan-passes}
+use Rattle.slices.specs.Scans.{outside, firstOutside, scan}
+use Rattle.packed.specs.Faults.{progressFault, sheetFault, secondFault, pairFault, sizesOf, checked}
+use Rattle.slices.proofs.Scans.{inside, not-outside, all-inside, scan-passes}
 
 module _ (number : ℕ) (part : Part) (low limit : ℕ) (b : List ℕ) (at count : ℕ) where
   pub scan-sound : scan number part low limit b at count ≡ sound → (k : ℕ) → k < count → (low ≤ getD b (at + k) 0) × (getD b (at + k) 0 < limit)

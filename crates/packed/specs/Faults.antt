@@ -1,33 +1,20 @@
 -- Which refusal a packed sheet gets, 1 to 6 of 01, for any bytes. Assumes nothing.
-use mathlib.Core.Bool.{Bool, not, _||_}
+use mathlib.Core.Bool.{not}
 use mathlib.Core.List.{List}
-use Prim.Native.Nat.{ℕ, zero, suc, _+_, _*_}
-use lib.Dec.{eqb, ltb, leb}
-use lib.ListN.{length, getD}
-use Rattle.fdfa.specs.declared.Part.{Part}
-use Rattle.fdfa.specs.declared.Part.the-variants.{First, Second}
-use Rattle.fdfa.specs.Normalization.{least}
+use Prim.Native.Nat.{ℕ, zero, suc, _*_}
+use lib.Dec.{eqb, ltb}
+use lib.ListN.{length}
+use Rattle.slices.specs.declared.Part.{Part}
+use Rattle.slices.specs.declared.Part.the-variants.{First, Second}
 use Rattle.fdfa.specs.Inclusion.{widest}
-use Rattle.fdfa.specs.Refusals.{Fault, sound, _then_, when, Result, given, refused, unless}
+use Rattle.slices.specs.Refusals.{Fault, sound, _then_, when, Result, given, refused, unless}
+use Rattle.slices.specs.Scans.{outside, scan}
 use Rattle.packed.specs.Layout.{letterCount, stateCount, sizeOf, leadingAt, progressAt, marksAt, sheetLength, decode}
 use Rattle.packed.specs.declared.Sizes.{Sizes}
 use Rattle.packed.specs.declared.Validity.{Validity}
 use Rattle.packed.specs.declared.Validity.the-variants.{Valid, Refused}
 use Rattle.packed.specs.declared.Validities.{Validities}
 use Rattle.packed.specs.declared.Validities.the-variants as pair
-
--- c is not from `low` to `limit` − 1.
-abbrev pub outside : ℕ → ℕ → ℕ → Bool
-outside low limit c = ltb c low || leb limit c
-
--- How many of `count` bytes from `at` on come before the first that is outside.
-unfoldable pub firstOutside : ℕ → ℕ → List ℕ → ℕ → ℕ → ℕ
-firstOutside low limit b at count = least count (λ i. outside low limit (getD b (at + i) 0))
-
--- The first of them that is outside is refused, at its place.
-abbrev pub scan : ℕ → Part → ℕ → ℕ → List ℕ → ℕ → ℕ → Fault
-scan number part low limit b at count =
-    when (ltb (firstOutside low limit b at count) count) number part (at + firstOutside low limit b at count)
 
 -- The progress automata of c leading states from q on: next states below the size, then marks 0 or 1.
 unfoldable pub progressFault : Part → List ℕ → ℕ → ℕ → Fault

@@ -7,7 +7,7 @@ use Prim.Native.Nat.{ℕ, _+_, _*_, _≤_, _<_}
 use lib.Dec.{eqb}
 use lib.ListN.{length, getD}
 use Rattle.fdfa.specs.Family.{Fdfa, Closed, Complete}
-use Rattle.packed.specs.Tables.{tab, rows, sum}
+use Rattle.slices.specs.Tables.{tab, rows, sum, table}
 
 -- What stands where.
 abbrev pub letterCount : List ℕ → ℕ
@@ -51,9 +51,6 @@ decode b = record {
 abbrev pub mark : Bool → ℕ
 mark true = 1
 mark false = 0
-
-abbrev pub table : ℕ → ℕ → (ℕ → ℕ → ℕ) → List ℕ
-table k s f = rows k (λ q. tab s (f q))
 
 -- The counts and the leading table, and the part of leading state q.
 abbrev pub frontBytes : Fdfa → List ℕ

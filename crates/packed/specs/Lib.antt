@@ -1,4 +1,3 @@
-pub mod Tables
 pub mod Layout
 pub mod Faults
 pub mod Columns

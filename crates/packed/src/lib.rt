@@ -1,18 +1,22 @@
 // The packed sheet: a family of DFAs as bytes. It is checked here, and its tables are read here.
 mod walking;
 
-use fdfa::Part;
-use fdfa::Refusal;
+use slices::Part;
+use slices::Refusal;
+use slices::first_outside;
+use slices::is_outside;
+use slices::refuse;
+use slices::wide;
 pub use walking::columns;
 pub use walking::walk;
 ghost use mathlib.Core.Path.{_≡_};
-ghost use Prim.Native.Nat.{ℕ, _+_, _*_, _≤_, _<_};
+ghost use Prim.Native.Nat.{_+_, _*_, _≤_, _<_};
 ghost use lib.Dec.{eqb};
 ghost use lib.ListN.{length, getD};
-ghost use Rattle.fdfa.specs.Inclusion.{largest};
-ghost use Rattle.fdfa.specs.Refusals.{unless};
+ghost use Rattle.slices.specs.Extremes.{largest};
+ghost use Rattle.slices.specs.Refusals.{unless};
 ghost use Rattle.packed.specs.Layout.{letterCount, stateCount, sizeOf, progressAt, sheetLength, tableStep, Header};
-ghost use Rattle.packed.specs.Faults.{outside, firstOutside, progressFault, sizesOf, checked, saysOf, secondFault, checkedPair, pairSays};
+ghost use Rattle.packed.specs.Faults.{progressFault, sizesOf, checked, saysOf, secondFault, checkedPair, pairSays};
 
 // The counts of a sheet: s, n and the largest k(q).
 pub struct Sizes {
@@ -31,60 +35,6 @@ pub enum Validity {
 pub enum Validities {
     Valid(Sizes, Sizes),
     Refused(Refusal),
-}
-
-fn wide(x: u8) -> usize
-    ensures { λ r. ⌜ r ≡ x ⌝ }
-{
-    x as usize
-}
-
-fn is_outside(low: usize, limit: usize, c: usize) -> bool
-    ensures { λ r. ⌜ r ≡ outside low limit c ⌝ }
-{
-    c < low || limit <= c
-}
-
-// How many of `count` bytes from `at` on come before the first that is not from `low` to `limit` − 1.
-pub fn first_outside(sheet: &[u8], low: usize, limit: usize, at: usize, count: usize) -> usize
-    requires { ⌜ at + count ≤ length (now sheet) ⌝ }
-    ensures { λ r. ⌜ r ≡ firstOutside low limit (now (sheet .entry)) at count ⌝ }
-{
-    let mut i = 0;
-    while i < count {
-        if is_outside(low, limit, wide(sheet[at + i])) {
-            return i;
-        }
-        i += 1;
-    }
-    count
-}
-
-// The largest byte, 0 where there is none.
-fn top(word: &[u8]) -> u8
-    ensures { λ r. ⌜ ((i : ℕ) → i < length (now (word .entry)) → getD (now (word .entry)) i 0 ≤ r) ⌝ }
-{
-    let mut most = 0;
-    let mut i = 0;
-    while i < word.len() {
-        let x = word[i];
-        if most < x {
-            most = x;
-        }
-        i += 1;
-    }
-    most
-}
-
-// How many letters of a word come before the first that is not below `letters`. The usual case, that there is none, is seen from
-// the largest, which takes vector instructions.
-pub fn first_unknown(word: &[u8], letters: usize) -> usize
-    ensures { λ r. ⌜ r ≡ firstOutside 0 letters (now (word .entry)) 0 (length (now (word .entry))) ⌝ }
-{
-    if wide(top(word)) < letters {
-        return word.len();
-    }
-    first_outside(word, 0, letters, 0, word.len())
 }
 
 // How many leading states the sheet has.
@@ -164,12 +114,12 @@ fn check_progress(sheet: &[u8], part: Part, s: usize, n: usize) -> Validity
         let k = size(sheet, q);
         let i = first_outside(sheet, 0, k, at, k * s);
         if i < k * s {
-            return refuse(5, part, at + i);
+            return Validity::Refused(refuse(5, part, at + i));
         }
         at += k * s;
         let p = first_outside(sheet, 0, 2, at, k);
         if p < k {
-            return refuse(6, part, at + p);
+            return Validity::Refused(refuse(6, part, at + p));
         }
         at += k;
         q += 1;
@@ -181,45 +131,35 @@ fn check_progress(sheet: &[u8], part: Part, s: usize, n: usize) -> Validity
     })
 }
 
-fn refuse(number: u8, part: Part, place: usize) -> Validity
-    ensures { λ r. ⌜ r ≡ Validity.Refused (record { number = number; part = part; place = place }) ⌝ }
-{
-    Validity::Refused(Refusal {
-        number,
-        part,
-        place,
-    })
-}
-
 // Whether the bytes are a packed sheet: its sizes, or the one refusal, which names `part`.
 pub fn check(sheet: &[u8], part: Part) -> Validity
     ensures { λ r. ⌜ saysOf r ≡ checked part (now (sheet .entry)) ⌝ }
 {
     let len = sheet.len();
     if len < 2 {
-        return refuse(1, part, len);
+        return Validity::Refused(refuse(1, part, len));
     }
     let s = wide(sheet[0]);
     if is_outside(1, 33, s) {
-        return refuse(2, part, 0);
+        return Validity::Refused(refuse(2, part, 0));
     }
     let n = wide(sheet[1]);
     if is_outside(1, 33, n) {
-        return refuse(3, part, 1);
+        return Validity::Refused(refuse(3, part, 1));
     }
     if len < 2 + n {
-        return refuse(1, part, len);
+        return Validity::Refused(refuse(1, part, len));
     }
     let q = first_outside(sheet, 1, 33, 2, n);
     if q < n {
-        return refuse(4, part, 2 + q);
+        return Validity::Refused(refuse(4, part, 2 + q));
     }
     if len != progress_at(sheet, n) {
-        return refuse(1, part, len);
+        return Validity::Refused(refuse(1, part, len));
     }
     let i = first_outside(sheet, 0, n, 2 + n, n * s);
     if i < n * s {
-        return refuse(5, part, 2 + n + i);
+        return Validity::Refused(refuse(5, part, 2 + n + i));
     }
     check_progress(sheet, part, s, n)
 }
@@ -243,11 +183,7 @@ fn check_second(z: Sizes, second: &[u8]) -> Validities
         Validity::Refused(r) => Validities::Refused(r),
         Validity::Valid(y) => {
             if z.letters != y.letters {
-                return Validities::Refused(Refusal {
-                    number: 7,
-                    part: Part::Second,
-                    place: 0,
-                });
+                return Validities::Refused(refuse(7, Part::Second, 0));
             }
             Validities::Valid(z, y)
         }

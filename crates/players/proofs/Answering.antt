@@ -1,13 +1,13 @@
 -- What the players' calls leave behind, by whether the answer slice is long enough. Assumes nothing.
 use mathlib.Core.Path.{_≡_, refl, ap, sym, subst, _∙_}
-use mathlib.Core.Bool.{Bool, true, false, cond, true≢false}
+use mathlib.Core.Bool.{Bool, cond, true≢false}
 use mathlib.Core.List.{List}
 use Prim.Native.Nat.{ℕ, _≤_, _<_}
 use lib.ListN.{length}
 use borrow.Author.Tests.{lt-ltb, le-ltb}
 use Rattle.fdfa.specs.Inclusion.{comparison}
-use Rattle.fdfa.specs.Refusals.{Fault, _then_, Result, unless}
-use Rattle.fdfa.specs.Slices.{written, filled}
+use Rattle.slices.specs.Refusals.{Fault, _then_, Result, unless}
+use Rattle.slices.specs.Filling.{written, filled}
 use Rattle.packed.specs.Layout.{decode}
 use Rattle.inclusion.specs.declared.Answer.{Answer}
 use Rattle.inclusion.specs.declared.Answer.the-variants.{Absent, Found, Refused}

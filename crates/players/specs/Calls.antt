@@ -6,8 +6,8 @@ use Prim.Native.Nat.{ℕ}
 use lib.Dec.{ltb}
 use lib.ListN.{length}
 use Rattle.fdfa.specs.Inclusion.{comparison}
-use Rattle.fdfa.specs.Refusals.{Fault, _then_, Result, given, refused, unless}
-use Rattle.fdfa.specs.Slices.{filled}
+use Rattle.slices.specs.Refusals.{Fault, _then_, Result, given, refused, unless}
+use Rattle.slices.specs.Filling.{filled}
 use Rattle.packed.specs.Layout.{decode}
 use Rattle.inclusion.specs.declared.Answer.{Answer}
 use Rattle.inclusion.specs.declared.Answer.the-variants.{Absent, Found, Refused}

@@ -5,12 +5,12 @@ use mathlib.Core.List.{List, [], _∷_}
 use Prim.Native.Nat.{ℕ, _/_, _%_, _^_}
 use lib.Dec.{ltb}
 use lib.ListN.{length, getD}
-use Rattle.fdfa.specs.declared.Part.{Part}
-use Rattle.fdfa.specs.declared.Part.the-variants.{First, Second, Opening, Loop, Out, Work, Cursor}
+use Rattle.slices.specs.declared.Part.{Part}
+use Rattle.slices.specs.declared.Part.the-variants.{First, Second, Opening, Loop, Out, Work, Cursor}
 use Rattle.fdfa.specs.Acceptance.{Verdict}
-use Rattle.fdfa.specs.Refusals.{Result, given, refused}
-use Rattle.fdfa.specs.Slices.{written}
-use Rattle.packed.specs.Tables.{tab, rows}
+use Rattle.slices.specs.Refusals.{Result, given, refused}
+use Rattle.slices.specs.Filling.{written}
+use Rattle.slices.specs.Tables.{tab, rows}
 use Rattle.packed.specs.Layout.{mark}
 use Rattle.inclusion.specs.Answers.{Said}
 

@@ -1,13 +1,12 @@
 // The calls for players in C: the verdict and the comparison over byte slices, the answer as numbers in one more lent slice.
-use fdfa::Part;
 use inclusion::Answer;
 use membership::Judgement;
+use slices::Part;
 ghost use mathlib.Core.Path.{_≡_};
 ghost use Prim.Native.Nat.{_*_, _≤_};
 ghost use lib.ListN.{length};
-ghost use Rattle.fdfa.specs.Slices.{written};
-ghost use Rattle.membership.specs.Verdict.{judged};
-ghost use Rattle.membership.specs.Verdict.{saysOf as judgementSays};
+ghost use Rattle.slices.specs.Filling.{written};
+ghost use Rattle.membership.specs.Verdict.{judged, saysOf as judgementSays};
 ghost use Rattle.inclusion.specs.Answers.{saysOf as answerSays};
 ghost use Rattle.players.specs.Layout.{partNumber, numberBytes, layout, verdictNumbers, compareNumbers, Told};
 ghost use Rattle.players.specs.Calls.{Compared};

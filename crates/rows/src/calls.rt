@@ -14,11 +14,10 @@ use crate::says::refused;
 use crate::total::at;
 use crate::total::front;
 use crate::total::front_mut;
-use boolean::Written;
-use fdfa::Part;
 use membership::Judgement;
-use notation::Reading;
 use packed::Validity;
+use slices::Part;
+use slices::Written;
 
 // What the library and the checker say, and whether every lent cell is as 01 says.
 pub struct Ran {
@@ -79,13 +78,6 @@ fn written(w: Written) -> Says {
     }
 }
 
-fn reading(w: Reading) -> Says {
-    match w {
-        Reading::Filled(n) => filled(n),
-        Reading::Refused(r) => refused(r),
-    }
-}
-
 pub fn complement(b: &[u8], given: &[u8], room: usize) -> Ran {
     let mut out = [170u8; 2048];
     let mut due = [170u8; 2048];
@@ -123,7 +115,7 @@ pub fn verdict_of(a: &[u8], b: &[u8], u: &[u8], v: &[u8]) -> Ran {
 pub fn write(b: &[u8], given: &[u8], room: usize) -> Ran {
     let mut out = [170u8; 2048];
     let mut due = [170u8; 2048];
-    let library = reading(notation::write(b, front_mut(&mut out, room)));
+    let library = written(notation::write(b, front_mut(&mut out, room)));
     let checker = naive_writer::write(b, &mut due, room);
     outcome(library, checker, is_right(&out, &due, given))
 }
@@ -132,7 +124,7 @@ pub fn write(b: &[u8], given: &[u8], room: usize) -> Ran {
 fn read(t: &[u8], sheet: &[u8], room: usize) -> Ran {
     let mut out = [170u8; 2048];
     let mut due = [170u8; 2048];
-    let library = reading(notation::read(t, front_mut(&mut out, room)));
+    let library = written(notation::read(t, front_mut(&mut out, room)));
     let checker = naive_text::read(t, sheet, &mut due, room);
     outcome(library, checker, is_right(&out, &due, b""))
 }

@@ -7,8 +7,8 @@ use crate::total::paste;
 use crate::total::put;
 use crate::total::sub;
 use crate::total::wide;
-use fdfa::Part;
-use fdfa::Refusal;
+use slices::Part;
+use slices::Refusal;
 
 pub const FIRST: usize = 0;
 

@@ -6,7 +6,7 @@ use native.Mathlib.Omega.{arith}
 use native.Mathlib.Nat.{not-suc-le-zero}
 use lib.ListN.{length, set, take, drop, length-set, drop-of-length-le, take-append-drop}
 use lib.Seq.{length-take-le, take-set-lt, drop-set-lt, drop-cons, getD-set-same}
-use Rattle.fdfa.specs.Slices.{written}
+use Rattle.slices.specs.Filling.{written}
 use Rattle.search.proofs.Letters.{length-letters}
 use Rattle.search.specs.Snoc.{Word, ε, _·_, size, letters}
 use Rattle.search.specs.Cells.{letterAt, parentAt}

@@ -6,7 +6,7 @@ use mathlib.Core.List.{List}
 use mathlib.Core.Logic.{_⊎_}
 use Prim.Native.Nat.{ℕ, suc, _+_, _*_, _-_, _≤_, _<_}
 use Rattle.fdfa.specs.Family.{Closed}
-use Rattle.fdfa.specs.Slices.{written}
+use Rattle.slices.specs.Filling.{written}
 use lib.ListN.{length, take, drop}
 use Rattle.search.specs.Snoc.{Word, ε, _·_, _⊏_, _⊑_, run, Over, size, letters}
 use Rattle.search.specs.Cells.{letterAt, parentAt}

@@ -3,14 +3,16 @@ use mathlib.Core.Path.{_≡_, refl}
 use mathlib.Core.Bool.{Bool, true, false}
 use mathlib.Core.List.{List, [], _∷_}
 use Prim.Native.Nat.{ℕ}
-use Rattle.fdfa.specs.Normalization.{least, returnFrom, returning}
+use Rattle.slices.specs.Extremes.{least, largest}
+use Rattle.fdfa.specs.Normalization.{returnFrom, returning}
 use Rattle.fdfa.specs.Acceptance.{Verdict}
 use Rattle.fdfa.specs.Enumeration.{firstLetter, firstOfLength, firstWord, Witness, absent, lasso}
-use Rattle.fdfa.specs.Inclusion.{comparison, emptiness, largest, countBelow}
-use Rattle.fdfa.specs.Refusals.{Result, given, refused}
-use Rattle.packed.specs.Tables.{tab, rows, sum}
+use Rattle.fdfa.specs.Inclusion.{comparison, emptiness, countBelow}
+use Rattle.slices.specs.Refusals.{Result, given, refused}
+use Rattle.slices.specs.Tables.{tab, rows, sum}
 use Rattle.packed.specs.Layout.{decode, progressAt}
-use Rattle.packed.specs.Faults.{firstOutside, progressFault, sheetFault}
+use Rattle.slices.specs.Scans.{firstOutside}
+use Rattle.packed.specs.Faults.{progressFault, sheetFault}
 use Rattle.membership.specs.Verdict.{lassoFault, judged}
 use Rattle.cursor.specs.declared.Cursor.{Cursor}
 use Rattle.cursor.specs.Walking.{startOf, nextOf, stepped, moved}

@@ -1,7 +1,7 @@
 // Reads a packed sheet from the file SOURCE and writes its text to the file TARGET, or prints the refusal.
 use console::Length;
-use fdfa::Part;
-use notation::Reading;
+use slices::Part;
+use slices::Written;
 
 // The longest text: 32 scenes, 32 places, 32 places in each loop automaton, next places of two digits.
 const LONGEST: usize = 109402;
@@ -10,8 +10,8 @@ fn unpack(source: &[u8], target: &[u8]) {
     let mut out = [0u8; LONGEST];
     let answer = notation::write(source, &mut out);
     match answer {
-        Reading::Refused(r) => console::print_refusal(r),
-        Reading::Filled(n) => console::save(target, &out[..n]),
+        Written::Refused(r) => console::print_refusal(r),
+        Written::Filled(n) => console::save(target, &out[..n]),
     }
 }
 

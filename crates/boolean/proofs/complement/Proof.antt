@@ -5,17 +5,17 @@ use Prim.Native.Nat.{ℕ}
 use denote.Ref.{now}
 use lib.ListN.{length}
 use borrow.Author.Tests.{lt-ltb, le-ltb}
-use Rattle.fdfa.specs.declared.Part.the-variants.{First, Out}
-use Rattle.fdfa.specs.declared.Refusal.{Refusal}
-use Rattle.fdfa.specs.Refusals.{Fault, sound, fault, given}
-use Rattle.fdfa.specs.Slices.{filled}
-use Rattle.fdfa.proofs.Refusals.{when-fails, when-passes, passed, failed, refuses, gives, was-given, was-refused}
+use Rattle.slices.specs.declared.Part.the-variants.{First, Out}
+use Rattle.slices.specs.declared.Refusal.{Refusal}
+use Rattle.slices.specs.Refusals.{Fault, sound, fault, given, refused}
+use Rattle.slices.specs.Filling.{filled}
+use Rattle.slices.proofs.Refusals.{when-fails, when-passes, passed, failed, refuses, gives, was-given, was-refused}
 use Rattle.packed.specs.declared.Sizes.{Sizes}
 use Rattle.packed.specs.Layout.{Valid}
 use Rattle.packed.specs.Faults.{sheetFault, sizesOf}
 use Rattle.packed.specs.Faults as faults
 use Rattle.packed.proofs.Soundness.{sound-valid}
-use Rattle.boolean.specs.Operations.{tooShort, complementBytes, complementFault, saysOf}
+use Rattle.boolean.specs.Operations.{tooShort, complementBytes, complementFault}
 use Rattle.boolean.proofs.Turning.{complement-length}
 use borrow.Author.Needs.{needs}
 use Rattle.boolean.proofs.complement.Statement.{statement}
@@ -60,7 +60,7 @@ returns c =
     let d = c .before .before .before in
     let e = d .before .before in
     let f = passed (tooShort (length (cells e)) (length (bytes e))) (sized d .0) ∙ when-fails 21 Out (length (bytes e)) (lt-ltb _ _ (c .before .if1 .taken)) in
-    (ap saysOf (c .refuse .ensures) ∙ refuses (length (complementBytes (bytes e))) f, refused-cells (bytes e) (complementBytes (bytes e)) (cells e) f)
+    (ap refused (c .refuse .ensures) ∙ refuses (length (complementBytes (bytes e))) f, refused-cells (bytes e) (complementBytes (bytes e)) (cells e) f)
 
 write-complement-requires : tie.Need-write-complement-requires
 write-complement-requires c κs =

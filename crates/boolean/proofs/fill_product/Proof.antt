@@ -6,11 +6,11 @@ use native.Mathlib.Omega.{arith}
 use denote.Ref.{now}
 use lib.ListN.{length}
 use borrow.Author.Tests.{lt-ltb, le-ltb}
-use Rattle.fdfa.specs.declared.Part.the-variants.{Out}
-use Rattle.fdfa.specs.Refusals.{Fault, sound, given, refused}
-use Rattle.fdfa.specs.Slices.{filled}
-use Rattle.fdfa.proofs.Refusals.{when-fails, when-passes, refuses, gives}
-use Rattle.boolean.specs.Operations.{productBytes, productAt, tooShort, saysOf}
+use Rattle.slices.specs.declared.Part.the-variants.{Out}
+use Rattle.slices.specs.Refusals.{Fault, sound, given, refused}
+use Rattle.slices.specs.Filling.{filled}
+use Rattle.slices.proofs.Refusals.{when-fails, when-passes, refuses, gives}
+use Rattle.boolean.specs.Operations.{productBytes, productAt, tooShort}
 use Rattle.boolean.proofs.Extent.{product-length}
 use borrow.Author.Needs.{needs}
 use Rattle.boolean.proofs.fill_product.Statement.{statement}
@@ -46,7 +46,7 @@ returns : tie.Need-returns
 returns c =
     let d = c .before .before in
     let f = when-fails 21 Out (length (bytes d)) (lt-ltb (length (cells d)) (length (bytes d)) (omega (arith, needed d, c .before .if1 .taken))) in (
-      ap saysOf (c .refuse .ensures) ∙ ((λ i. refused (record { number = 21; part = Out; place = needed d i })) ∙ refuses (length (bytes d)) f),
+      ap refused (c .refuse .ensures) ∙ ((λ i. refused (record { number = 21; part = Out; place = needed d i })) ∙ refuses (length (bytes d)) f),
       ap (λ (x : Fault). filled x (bytes d) (cells d)) (sym f),
     )
 

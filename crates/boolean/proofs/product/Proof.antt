@@ -7,17 +7,17 @@ use denote.Ref.{now}
 use lib.Dec.{ltb}
 use lib.ListN.{length}
 use borrow.Author.Tests.{lt-ltb, le-ltb}
-use Rattle.fdfa.specs.declared.Part.the-variants.{Out}
+use Rattle.slices.specs.declared.Part.the-variants.{Out}
 use Rattle.fdfa.specs.Inclusion.{widest}
-use Rattle.fdfa.specs.Refusals.{Fault, sound, _then_, when, given, refused, unless}
-use Rattle.fdfa.specs.Slices.{filled}
-use Rattle.fdfa.proofs.Largest.{largest-most}
-use Rattle.fdfa.proofs.Refusals.{when-fails, when-passes, passed, failed, refuses, was-given, was-refused}
+use Rattle.slices.specs.Refusals.{Fault, sound, _then_, when, given, refused, unless}
+use Rattle.slices.specs.Filling.{filled}
+use Rattle.slices.proofs.Extremes.{largest-most}
+use Rattle.slices.proofs.Refusals.{when-fails, when-passes, passed, failed, refuses, was-given, was-refused}
 use Rattle.packed.specs.Layout.{letterCount, stateCount, decode, Valid}
 use Rattle.packed.specs.Faults.{sizesOf, pairFault, BothSizes, pairSays}
 use Rattle.packed.proofs.Bounds.{few-both}
 use Rattle.packed.proofs.Soundness.{pair-valid}
-use Rattle.boolean.specs.Operations.{productBytes, tooShort, productFault, saysOf}
+use Rattle.boolean.specs.Operations.{productBytes, tooShort, productFault}
 use Rattle.boolean.proofs.Verdicts.{sizes-few}
 use borrow.Author.Needs.{needs}
 use Rattle.boolean.proofs.product.Statement.{statement}
@@ -104,7 +104,7 @@ returns c =
     let e = d .before .before in
     let n = stateCount (first e) * stateCount (second e) in
     let f = to-pairs d ∙ failed (progress e) (when-fails 20 Out n (lt-ltb 32 n (omega (arith, n-is d, c .before .if1 .taken)))) in (
-      ap saysOf (c .refuse .ensures) ∙ ((λ i. refused (record { number = 20; part = Out; place = n-is d i })) ∙ refuses (length (bytes e)) f),
+      ap refused (c .refuse .ensures) ∙ ((λ i. refused (record { number = 20; part = Out; place = n-is d i })) ∙ refuses (length (bytes e)) f),
       ap (λ (x : Fault). filled x (bytes e) (cells e)) (sym f),
     )
 
@@ -120,7 +120,7 @@ returns-2 c =
     let e = d .before .before in
     let k = widest (decode (first e)) * widest (decode (second e)) in
     let f = to-progress (c .before .before .before .before) ∙ failed (room e) (when-fails 20 Out k (lt-ltb 32 k (omega (arith, k-is d, c .before .if2 .taken)))) in (
-      ap saysOf (c .refuse2 .ensures) ∙ ((λ i. refused (record { number = 20; part = Out; place = k-is d i })) ∙ refuses (length (bytes e)) f),
+      ap refused (c .refuse2 .ensures) ∙ ((λ i. refused (record { number = 20; part = Out; place = k-is d i })) ∙ refuses (length (bytes e)) f),
       ap (λ (x : Fault). filled x (bytes e) (cells e)) (sym f),
     )
 

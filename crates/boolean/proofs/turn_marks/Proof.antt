@@ -2,7 +2,7 @@
 use Prim.Native.Nat.{_-_}
 use native.Mathlib.Omega.{arith}
 use lib.ListN.{length}
-use Rattle.packed.proofs.Filling.{Filling, filling-none, filling-more, filling-all}
+use Rattle.slices.proofs.Filling.{Filling, filling-none, filling-more, filling-all}
 use Rattle.boolean.specs.Operations.{turnedMark}
 use borrow.Author.Needs.{needs}
 use Rattle.boolean.proofs.turn_marks.Statement.{statement}

@@ -6,10 +6,10 @@ use native.Mathlib.Omega.{arith}
 use denote.Ref.{now}
 use lib.ListN.{length, take, drop, length-drop}
 use lib.Seq.{length-take-le, take-all}
-use Rattle.fdfa.proofs.Slices.{Begun, begun-first, begun-more}
-use Rattle.fdfa.specs.Slices.{written}
-use Rattle.packed.specs.Tables.{tab}
-use Rattle.packed.proofs.Tabulated.{length-tab}
+use Rattle.slices.proofs.Filling.{Begun, begun-first, begun-more}
+use Rattle.slices.specs.Filling.{written}
+use Rattle.slices.specs.Tables.{tab}
+use Rattle.slices.proofs.Tables.{length-tab}
 use Rattle.boolean.specs.Operations.{turnedMark}
 use borrow.Author.Needs.{needs}
 use Rattle.boolean.proofs.turn_part.Statement.{statement}

@@ -8,9 +8,9 @@ use denote.Ref.{now}
 use lib.ListN.{length, take, drop, length-append, length-drop}
 use lib.Seq.{length-take-le}
 use Rattle.fdfa.specs.Boolean.{complement}
-use Rattle.fdfa.specs.Slices.{written}
-use Rattle.fdfa.proofs.Slices.{Begun, begun-first, begun-as, begun-more, lent-length, written-again}
-use Rattle.packed.specs.Tables.{rows}
+use Rattle.slices.specs.Filling.{written}
+use Rattle.slices.proofs.Filling.{Begun, begun-first, begun-as, begun-more, lent-length, written-again}
+use Rattle.slices.specs.Tables.{rows}
 use Rattle.packed.specs.Layout.{stateCount, progressAt, decode, frontBytes, partBytes}
 use Rattle.packed.proofs.Bounds.{few-both, progress-first, progress-next, progress-upto, Body, body}
 use Rattle.packed.proofs.Packing.{front-of, length-front, length-part}

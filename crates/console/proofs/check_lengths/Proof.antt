@@ -2,8 +2,8 @@
 use mathlib.Core.Path.{sym, _∙_}
 use borrow.Author.Needs.{needs}
 use borrow.Author.Tests.{lt-ltb, le-ltb}
-use Rattle.fdfa.specs.declared.Part.the-variants.{First}
-use Rattle.fdfa.proofs.Refusals.{when-fails, when-passes, passed, failed}
+use Rattle.slices.specs.declared.Part.the-variants.{First}
+use Rattle.slices.proofs.Refusals.{when-fails, when-passes, passed, failed}
 use Rattle.console.proofs.check_lengths.Statement.{statement}
 use Rattle.console.proofs.check_lengths.Tie as tie
 

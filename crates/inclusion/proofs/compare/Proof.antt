@@ -9,18 +9,19 @@ use lib.Dec.{ltb}
 use lib.ListN.{length, replicate}
 use lib.Seq.{length-take-le}
 use borrow.Author.Tests.{lt-ltb, le-ltb}
-use Rattle.fdfa.specs.declared.Part.the-variants.{Work}
+use Rattle.slices.specs.declared.Part.the-variants.{Work}
 use Rattle.fdfa.specs.Inclusion.{widest, comparison}
-use Rattle.fdfa.specs.Refusals.{sound, fault, when}
-use Rattle.fdfa.proofs.Refusals.{when-fails, when-passes, passed, failed, was-given, was-refused}
+use Rattle.slices.specs.Refusals.{sound, fault, when}
+use Rattle.slices.proofs.Refusals.{when-fails, when-passes, passed, failed, was-given, was-refused}
 use Rattle.packed.specs.Layout.{letterCount, stateCount, decode, Valid}
 use Rattle.packed.specs.Faults.{sizesOf, pairFault, BothSizes, pairSays}
 use Rattle.packed.proofs.Bounds.{few-both}
 use Rattle.packed.proofs.Soundness.{pair-valid}
-use Rattle.inclusion.specs.Answers.{cellsFor, startFault, Meets}
+use Rattle.inclusion.specs.Answers.{cellsFor, startFault}
 use Rattle.inclusion.proofs.Twins.{twin-of, few-widest}
 use Rattle.inclusion.proofs.Answering.{answered-refused, answered-decided, decided-shows}
 use Rattle.inclusion.proofs.Comparing.{meets, first-complete, second-complete, twin-witness, twin-reached}
+use Rattle.inclusion.specs.declared.Answer.the-variants.{Refused}
 use borrow.Author.Needs.{needs}
 use Rattle.inclusion.proofs.compare.Statement.{statement}
 use Rattle.inclusion.proofs.compare.Tie as tie
@@ -102,11 +103,11 @@ returns : tie.Need-returns
 returns c =
     let m = c .before .before .before .before .before .before .before in
     let d = m .before .before in (
-      answered-refused (startFault (one d) (two d) (length (now (start d .args .work)))) (comparison (decode (one d)) (decode (two d))) (cellsFor (one d) (two d)) (now (start d .args .opening)) (now (start d .args .period)) (now (start d .args .work)) (c .refuse .ensures)
+      answered-refused (startFault (one d) (two d) (length (now (start d .args .work)))) (comparison (decode (one d)) (decode (two d))) (cellsFor (one d) (two d)) (now (start d .args .opening)) (now (start d .args .period)) (now (start d .args .work)) (ap Refused (c .refuse .ensures))
           (passed _ (sized m .0)
           ∙ (when-fails 22 Work (cellsFor (one d) (two d)) (lt-ltb _ _ (subst (λ (x : ℕ). length (now (start d .args .work)) < x) (cells-is m) (c .before .if1 .taken)))
           ∙ ap (λ (x : ℕ). fault (record { number = 22; part = Work; place = x })) (sym (cells-is m)))),
-      subst (Meets (decode (one d)) (decode (two d)) _ _) (sym (c .refuse .ensures)) tt,
+      tt,
     )
 
 add-t15 : tie.Need-add-t15

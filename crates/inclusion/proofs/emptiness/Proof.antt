@@ -8,19 +8,20 @@ use lib.Dec.{ltb}
 use lib.ListN.{length, replicate}
 use lib.Seq.{length-take-le}
 use borrow.Author.Tests.{lt-ltb, le-ltb}
-use Rattle.fdfa.specs.declared.Part.the-variants.{First, Work}
+use Rattle.slices.specs.declared.Part.the-variants.{First, Work}
 use Rattle.fdfa.specs.Inclusion.{emptiness}
-use Rattle.fdfa.specs.Refusals.{sound, fault, when}
-use Rattle.fdfa.proofs.Refusals.{when-fails, when-passes, passed, failed, was-given, was-refused}
+use Rattle.slices.specs.Refusals.{sound, fault, when}
+use Rattle.slices.proofs.Refusals.{when-fails, when-passes, passed, failed, was-given, was-refused}
 use Rattle.packed.specs.declared.Sizes.{Sizes}
 use Rattle.packed.specs.Layout.{decode, Valid}
 use Rattle.packed.specs.Faults.{sizesOf, sheetFault, saysOf}
 use Rattle.packed.proofs.Bounds.{few-both}
 use Rattle.packed.proofs.Soundness.{sound-valid, valid-packable}
-use Rattle.inclusion.specs.Answers.{emptyCells, emptyStart, MeetsEmpty}
+use Rattle.inclusion.specs.Answers.{emptyCells, emptyStart}
 use Rattle.inclusion.proofs.Twins.{few-widest}
 use Rattle.inclusion.proofs.Answering.{answered-refused, answered-decided, decided-shows}
 use Rattle.inclusion.proofs.Nothing.{empty-witness, empty-reached, meets-empty}
+use Rattle.inclusion.specs.declared.Answer.the-variants.{Refused}
 use borrow.Author.Needs.{needs}
 use Rattle.inclusion.proofs.emptiness.Statement.{statement}
 use Rattle.inclusion.proofs.emptiness.Tie as tie
@@ -75,11 +76,11 @@ returns : tie.Need-returns
 returns c =
     let m = c .before .before .before .before .before in
     let d = m .before .before in (
-      answered-refused (emptyStart (bytes d) (length (now (start d .args .work)))) (emptiness (decode (bytes d))) (emptyCells (bytes d)) (now (start d .args .opening)) (now (start d .args .period)) (now (start d .args .work)) (c .refuse .ensures)
+      answered-refused (emptyStart (bytes d) (length (now (start d .args .work)))) (emptiness (decode (bytes d))) (emptyCells (bytes d)) (now (start d .args .opening)) (now (start d .args .period)) (now (start d .args .work)) (ap Refused (c .refuse .ensures))
           (passed _ (sized m .0)
           ∙ (when-fails 22 Work (emptyCells (bytes d)) (lt-ltb _ _ (subst (λ (x : ℕ). length (now (start d .args .work)) < x) (cells-is m) (c .before .if1 .taken)))
           ∙ ap (λ (x : ℕ). fault (record { number = 22; part = Work; place = x })) (sym (cells-is m)))),
-      subst (MeetsEmpty (decode (bytes d)) _ _) (sym (c .refuse .ensures)) tt,
+      tt,
     )
 
 slice-relend-prefix-decide-empty : tie.Need-slice-relend-prefix-decide-empty

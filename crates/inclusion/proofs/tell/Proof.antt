@@ -1,9 +1,10 @@
 -- `inclusion::tell` meets its contract. Assumes nothing.
-use mathlib.Core.Path.{sym}
+use mathlib.Core.Path.{sym, ap}
 use Prim.Native.Nat.{_-_}
 use native.Mathlib.Omega.{arith}
 use lib.Seq.{length-take-le}
 use Rattle.inclusion.proofs.Telling.{tells-opening, tells-period, tells-all}
+use Rattle.inclusion.specs.declared.Answer.the-variants.{Refused}
 use borrow.Author.Needs.{needs}
 use Rattle.inclusion.proofs.tell.Statement.{statement}
 use Rattle.inclusion.proofs.tell.Tie as tie
@@ -35,7 +36,7 @@ refuse-requires c κs = search needs
 returns : tie.Need-returns
 returns c =
     let d = c .before .before in
-    tells-opening _ _ _ _ _ _ _ _ _ (d .before .before .depth .ensures) (d .depth2 .ensures) (c .refuse .ensures) (c .before .if1 .taken)
+    tells-opening _ _ _ _ _ _ _ _ _ (d .before .before .depth .ensures) (d .depth2 .ensures) (ap Refused (c .refuse .ensures)) (c .before .if1 .taken)
 
 refuse-requires-2 : tie.Need-refuse-requires-2
 refuse-requires-2 c κs = search needs
@@ -44,7 +45,7 @@ returns-2 : tie.Need-returns-2
 returns-2 c =
     let e = c .before .before in
     let d = e .before in
-    tells-period _ _ _ _ _ _ _ _ _ (d .before .before .depth .ensures) (d .depth2 .ensures) (c .refuse2 .ensures) (e .if1 .left) (c .before .if2 .taken)
+    tells-period _ _ _ _ _ _ _ _ _ (d .before .before .depth .ensures) (d .depth2 .ensures) (ap Refused (c .refuse2 .ensures)) (e .if1 .left) (c .before .if2 .taken)
 
 slice-aggregate-fill : tie.Need-slice-aggregate-fill
 slice-aggregate-fill c =

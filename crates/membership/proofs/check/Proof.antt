@@ -7,14 +7,15 @@ use denote.Ref.{now}
 use lib.Dec.{eqb}
 use lib.ListN.{length}
 use borrow.Author.Tests.{eq-eqb, ne-eqb}
-use Rattle.fdfa.specs.declared.Part.the-variants.{First, Opening, Loop}
-use Rattle.fdfa.specs.Refusals.{Fault, sound, _then_, when, given, refused}
-use Rattle.fdfa.proofs.Refusals.{when-fails, when-passes, passed, failed, refuses, gives, was-given, was-refused}
+use Rattle.slices.specs.declared.Part.the-variants.{First, Opening, Loop}
+use Rattle.slices.specs.Refusals.{Fault, sound, _then_, when, given, refused}
+use Rattle.slices.proofs.Refusals.{when-fails, when-passes, passed, failed, refuses, gives, was-given, was-refused}
 use Rattle.packed.specs.declared.Sizes.{Sizes}
 use Rattle.packed.specs.Layout.{letterCount}
-use Rattle.packed.specs.Faults.{firstOutside, scan, sheetFault, sizesOf, saysOf}
-use Rattle.packed.proofs.Scan.{scan-fails, scan-passes}
-use Rattle.membership.specs.Verdict.{lassoFault, checkSays}
+use Rattle.slices.specs.Scans.{firstOutside, scan}
+use Rattle.packed.specs.Faults.{sheetFault, sizesOf, saysOf}
+use Rattle.slices.proofs.Scans.{scan-fails, scan-passes}
+use Rattle.membership.specs.Verdict.{lassoFault}
 use borrow.Author.Needs.{needs}
 use Rattle.membership.proofs.check.Statement.{statement}
 use Rattle.membership.proofs.check.Tie as tie
@@ -95,7 +96,7 @@ returns : tie.Need-returns
 returns c =
     let d = c .before .before in
     let s = start (d .before .before .before .before) in
-    ap checkSays (c .refuse .ensures)
+    ap refused (c .refuse .ensures)
     ∙ ((λ i. refused (record { number = 9; part = Opening; place = at-place (d .first-unknown .result) i }))
     ∙ refuses (sizesOf (sheet s))
     (to-prefix (d .before .before) ∙ failed (period (sheet s) (loop s)) (scan-fails 9 Opening 0 _ (before s) 0 _ _ (prefix-scan d) (c .before .if1 .taken))))
@@ -107,7 +108,7 @@ returns-2 : tie.Need-returns-2
 returns-2 c =
     let d = c .before .before in
     let s = start (d .before .before .before .before .before) in
-    ap checkSays (c .refuse2 .ensures)
+    ap refused (c .refuse2 .ensures)
     ∙ refuses (sizesOf (sheet s)) (to-period d ∙ failed _ (when-fails 8 Loop 0 (eq-eqb _ 0 (c .before .if2 .taken))))
 
 first-unknown-requires-2 : tie.Need-first-unknown-requires-2
@@ -120,7 +121,7 @@ returns-3 : tie.Need-returns-3
 returns-3 c =
     let d = c .before .before in
     let s = start (d .before .before .before .before .before .before .before) in
-    ap checkSays (c .refuse3 .ensures)
+    ap refused (c .refuse3 .ensures)
     ∙ ((λ i. refused (record { number = 9; part = Loop; place = at-place (d .first-unknown2 .result) i }))
     ∙ refuses (sizesOf (sheet s))
     (to-letters (d .before) ∙ scan-fails 9 Loop 0 _ (loop s) 0 _ _ (period-scan d) (c .before .if3 .taken)))

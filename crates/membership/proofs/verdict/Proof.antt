@@ -5,11 +5,11 @@ use Prim.Native.Nat.{ℕ, _+_, _<_}
 use native.Mathlib.Omega.{arith}
 use denote.Enum.Declared
 use denote.Ref.{now}
-use Rattle.fdfa.specs.declared.Refusal.{Refusal}
+use Rattle.slices.specs.declared.Refusal.{Refusal}
 use Rattle.fdfa.specs.Family.{Lasso}
 use Rattle.fdfa.specs.Acceptance.{verdict}
-use Rattle.fdfa.specs.Refusals.{sound, given, refused, unless}
-use Rattle.fdfa.proofs.Refusals.{refuses, gives, was-given, was-refused}
+use Rattle.slices.specs.Refusals.{sound, given, refused, unless}
+use Rattle.slices.proofs.Refusals.{refuses, gives, was-given, was-refused}
 use Rattle.fdfa.proofs.Words.{walk-closed, over-turns}
 use Rattle.packed.specs.declared.Sizes.{Sizes}
 use Rattle.packed.specs.Layout.{letterCount, stateCount, leadingAt, decode, Valid}

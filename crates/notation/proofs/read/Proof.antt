@@ -7,10 +7,10 @@ use denote.Ref.{now}
 use lib.Dec.{ltb}
 use lib.ListN.{length}
 use borrow.Author.Tests.{lt-ltb, le-ltb}
-use Rattle.fdfa.specs.declared.Part.the-variants.{Out}
-use Rattle.fdfa.specs.Refusals.{Fault, sound, fault, when, given}
-use Rattle.fdfa.specs.Slices.{filled}
-use Rattle.fdfa.proofs.Refusals.{when-fails, when-passes, passed, failed, refuses, gives}
+use Rattle.slices.specs.declared.Part.the-variants.{Out}
+use Rattle.slices.specs.Refusals.{Fault, sound, fault, when, given, refused}
+use Rattle.slices.specs.Filling.{filled}
+use Rattle.slices.proofs.Refusals.{when-fails, when-passes, passed, failed, refuses, gives}
 use Rattle.notation.specs.Numerals.{skips}
 use Rattle.notation.specs.Reading.{judged, leadingRowsAt, lettersIn, statesIn, leadIn, bytesOf, faultOf, readFault, Readable, stepSays}
 use Rattle.notation.proofs.Stores.{stored-written}
@@ -79,13 +79,17 @@ lead-at-requires c κs =
 needed-requires : tie.Need-needed-requires
 needed-requires c κs = ready c
 
+refuse-requires : tie.Need-refuse-requires
+refuse-requires c κs = search needs
+
 returns : tie.Need-returns
 returns c =
-    let s = c .before .before .before .before .before .before .before .before .before .before .before in
+    let d = c .before in
+    let s = d .before .before .before .before .before .before .before .before .before .before .before in
     let t = text s in
     let old = now (s .args .out) in
-    let f = too-short t old _ (c .before .needed .result) (good (c .before .before .before .before .before .before) ∙ ap stepSays (c .before .before .before .before .before .before .enum-told .given .1)) (c .before .needed .ensures) (c .if1 .taken) in
-    (refuses (length (bytesOf t)) f, ap (λ (x : Fault). filled x (bytesOf t) old) (sym f))
+    let f = too-short t old _ (d .before .needed .result) (good (d .before .before .before .before .before .before) ∙ ap stepSays (d .before .before .before .before .before .before .enum-told .given .1)) (d .before .needed .ensures) (d .if1 .taken) in
+    (ap refused (c .refuse .ensures) ∙ refuses (length (bytesOf t)) f, ap (λ (x : Fault). filled x (bytesOf t) old) (sym f))
 
 fill-requires : tie.Need-fill-requires
 fill-requires c κs =
@@ -125,6 +129,7 @@ read-spec =
     skips-requires
     lead-at-requires
     needed-requires
+    refuse-requires
     returns
     fill-requires
     returns-2

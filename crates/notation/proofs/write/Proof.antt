@@ -7,10 +7,10 @@ use denote.Ref.{now}
 use lib.Dec.{ltb}
 use lib.ListN.{length}
 use borrow.Author.Tests.{lt-ltb, le-ltb}
-use Rattle.fdfa.specs.declared.Part.the-variants.{First, Out}
-use Rattle.fdfa.specs.Refusals.{Fault, sound, fault, when, given}
-use Rattle.fdfa.specs.Slices.{written, filled}
-use Rattle.fdfa.proofs.Refusals.{when-fails, when-passes, passed, failed, refuses, gives, was-given, was-refused}
+use Rattle.slices.specs.declared.Part.the-variants.{First, Out}
+use Rattle.slices.specs.Refusals.{Fault, sound, fault, when, given, refused}
+use Rattle.slices.specs.Filling.{written, filled}
+use Rattle.slices.proofs.Refusals.{when-fails, when-passes, passed, failed, refuses, gives, was-given, was-refused}
 use Rattle.packed.specs.declared.Sizes.{Sizes}
 use Rattle.packed.specs.Layout.{Valid, letterCount, stateCount}
 use Rattle.packed.specs.Faults.{sheetFault, sizesOf, saysOf}
@@ -78,17 +78,21 @@ slice-aggregate-put-sheet c = search needs
 put-sheet-requires : tie.Need-put-sheet-requires
 put-sheet-requires c κs = ready (c .before .before)
 
+refuse-requires : tie.Need-refuse-requires
+refuse-requires c κs = search needs
+
 same-length : tie.Need-same-length
 same-length c = search needs
 
 returns : tie.Need-returns
 returns c =
-    let s = c .before .before .before .before .before .before .before .before .before .before .before in
+    let d = c .before in
+    let s = d .before .before .before .before .before .before .before .before .before .before .before in
     let b = now (s .args .sheet) in
     let old = now (s .args .out) in
-    let e = back (c .before .before .before .put-sheet .last .1 .1 .1 .0) old (stored-length (c .before .before .before .put-sheet .ensures)) in
-    let f = too-short b old (c .before .before .before .put-sheet .result) (c .before .before .before .put-sheet .ensures .next) (sized (c .before .before .before .before .before .before) .0) (less-room _ old _ e (c .if1 .taken)) in (
-      refuses (length (textOf b)) f,
+    let e = back (d .before .before .before .put-sheet .last .1 .1 .1 .0) old (stored-length (d .before .before .before .put-sheet .ensures)) in
+    let f = too-short b old (d .before .before .before .put-sheet .result) (d .before .before .before .put-sheet .ensures .next) (sized (d .before .before .before .before .before .before) .0) (less-room _ old _ e (d .if1 .taken)) in (
+      ap refused (c .refuse .ensures) ∙ refuses (length (textOf b)) f,
       e ∙ ap (λ (x : Fault). filled x (textOf b) old) (sym f),
     )
 
@@ -129,6 +133,7 @@ write-spec =
     slice-relend-prefix-put-sheet
     slice-aggregate-put-sheet
     put-sheet-requires
+    refuse-requires
     same-length
     returns
     put-sheet-requires-2

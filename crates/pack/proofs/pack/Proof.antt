@@ -5,7 +5,8 @@ use lib.ListN.{length}
 use lib.Seq.{length-take-le}
 use denote.Ref.{now}
 use native.Mathlib.Omega.{arith}
-use Rattle.notation.specs.Reading.{judged, faultOf, bytesOf, saysOf}
+use Rattle.notation.specs.Reading.{judged, faultOf, bytesOf}
+use Rattle.slices.specs.Refusals.{writtenSays}
 use Rattle.console.proofs.Room.{fits}
 use borrow.Author.Needs.{needs}
 use Rattle.pack.proofs.pack.Statement.{statement}
@@ -16,7 +17,7 @@ room : (c : tie.After-answer2) → c .answer2 .given .0 .0 ≤ length (c .before
 room c =
     let e = c .before .before .before in
     let t = now (e .before .before .before .before .args .source) in
-    let h = fits (faultOf (judged t)) _ (length (bytesOf t)) (sym (ap saysOf (c .answer2 .given .1)) ∙ e .read .ensures .0) in
+    let h = fits (faultOf (judged t)) _ (length (bytesOf t)) (sym (ap writtenSays (c .answer2 .given .1)) ∙ e .read .ensures .0) in
     omega (arith, h, e .read .kept .1 .0)
 
 slice-aggregate-read : tie.Need-slice-aggregate-read

@@ -8,13 +8,14 @@ use denote.Ref.{now}
 use lib.Dec.{ltb, eqb}
 use lib.ListN.{length}
 use borrow.Author.Tests.{lt-ltb, le-ltb, eq-eqb, ne-eqb}
-use Rattle.fdfa.specs.declared.Part.{Part}
-use Rattle.fdfa.specs.Refusals.{Fault, _then_, when, refused, unless}
+use Rattle.slices.specs.declared.Part.{Part}
+use Rattle.slices.specs.Refusals.{Fault, _then_, when, refused, unless}
 use Rattle.packed.specs.Layout.{letterCount, stateCount, sizeOf, leadingAt, progressAt, sheetLength, Header}
-use Rattle.packed.specs.Faults.{outside, firstOutside, scan, progressFault, sheetFault, sizesOf, saysOf}
+use Rattle.slices.specs.Scans.{outside, firstOutside, scan}
+use Rattle.packed.specs.Faults.{progressFault, sheetFault, sizesOf}
 use Rattle.packed.proofs.Bounds.{few-both, progress-first, progress-upto, sheet-few}
-use Rattle.fdfa.proofs.Refusals.{when-fails, when-passes, passed, failed, refuses}
-use Rattle.packed.proofs.Scan.{inside, all-inside, scan-fails, scan-passes}
+use Rattle.slices.proofs.Refusals.{when-fails, when-passes, passed, failed, refuses}
+use Rattle.slices.proofs.Scans.{inside, all-inside, scan-fails, scan-passes}
 use borrow.Author.Needs.{needs}
 use Rattle.packed.proofs.check.Statement.{statement}
 use Rattle.packed.proofs.check.Tie as tie
@@ -206,7 +207,7 @@ returns : tie.Need-returns
 unfolding sheetFault
 returns c =
     let s = c .before .before .before in
-    ap saysOf (c .refuse .ensures)
+    ap refused (c .refuse .ensures)
     ∙ refuses (sizesOf (bytes s)) (failed (letters (named s) (bytes s)) (when-fails 1 (named s) _ (lt-ltb _ 2 (c .before .if1 .taken))))
 
 shared-slice-read-wide : tie.Need-shared-slice-read-wide
@@ -225,7 +226,7 @@ returns-2 : tie.Need-returns-2
 returns-2 c =
     let d = c .before .before in
     let s = start1 (d .before .before .before) in
-    ap saysOf (c .refuse2 .ensures)
+    ap refused (c .refuse2 .ensures)
     ∙ refuses (sizesOf (bytes s))
     (stage1 (d .before .before .before) ∙ failed (states (named s) (bytes s)) (when-fails 2 (named s) 0 (letters-test d ∙ c .before .if2 .taken)))
 
@@ -245,7 +246,7 @@ returns-3 : tie.Need-returns-3
 returns-3 c =
     let d = c .before .before in
     let s = start2 (d .before .before .before) in
-    ap saysOf (c .refuse3 .ensures)
+    ap refused (c .refuse3 .ensures)
     ∙ refuses (sizesOf (bytes s))
     (stage2 (d .before .before .before) ∙ failed (header (named s) (bytes s)) (when-fails 3 (named s) 1 (states-test d ∙ c .before .if3 .taken)))
 
@@ -260,7 +261,7 @@ returns-4 : tie.Need-returns-4
 returns-4 c =
     let d = c .before .before in
     let s = start3 d in
-    ap saysOf (c .refuse4 .ensures)
+    ap refused (c .refuse4 .ensures)
     ∙ refuses (sizesOf (bytes s))
     (stage3 d
     ∙ failed (sizes (named s) (bytes s)) (when-fails 1 (named s) _ (lt-ltb (length (bytes s)) (leadingAt (bytes s)) (omega (arith, c .before .if4 .taken, count d)))))
@@ -278,7 +279,7 @@ returns-5 : tie.Need-returns-5
 returns-5 c =
     let d = c .before .before in
     let s = start4 (d .before) in
-    ap saysOf (c .refuse5 .ensures)
+    ap refused (c .refuse5 .ensures)
     ∙ refuses (sizesOf (bytes s))
     (stage4 (d .before)
     ∙ failed (whole (named s) (bytes s)) (scan-fails 4 (named s) 1 33 _ 2 _ _ (sizes-scan d) (omega (arith, c .before .if5 .taken, count (d .before .before)))))
@@ -293,7 +294,7 @@ returns-6 : tie.Need-returns-6
 returns-6 c =
     let d = c .before .before in
     let s = start5 (d .before) in
-    ap saysOf (c .refuse6 .ensures)
+    ap refused (c .refuse6 .ensures)
     ∙ refuses (sizesOf (bytes s))
     (stage5 (d .before)
     ∙ failed (tables (named s) (bytes s)) (when-fails 1 (named s) _ (ap not (ne-eqb _ _ (λ e. c .before .if6 .taken (e ∙ sym (due d)))))))
@@ -324,7 +325,7 @@ returns-7 c =
     let d = c .before .before in
     let s = start6 (d .before) in
     let n = count (d .before .before .before .before .before .before) in
-    ap saysOf (c .refuse7 .ensures)
+    ap refused (c .refuse7 .ensures)
     ∙ ((λ i. refused (record { number = 5; part = named s; place = 2 + n i + d .first-outside2 .result }))
     ∙ refuses (sizesOf (bytes s))
     (stage6 (d .before)

@@ -3,9 +3,9 @@ use mathlib.Core.Path.{_≡_, ap, sym, _∙_}
 use mathlib.Core.List.{List}
 use Prim.Native.Nat.{ℕ}
 use denote.Ref.{now}
-use Rattle.fdfa.specs.declared.Part.the-variants.{First}
-use Rattle.fdfa.specs.Refusals.{sound, unless}
-use Rattle.fdfa.proofs.Refusals.{passed, failed, refuses, was-given, was-refused}
+use Rattle.slices.specs.declared.Part.the-variants.{First}
+use Rattle.slices.specs.Refusals.{sound, unless}
+use Rattle.slices.proofs.Refusals.{passed, failed, refuses, was-given, was-refused}
 use Rattle.packed.specs.declared.Sizes.{Sizes}
 use Rattle.packed.specs.Faults.{sheetFault, sizesOf, saysOf, secondFault, BothSizes}
 use borrow.Author.Needs.{needs}

@@ -5,12 +5,13 @@ use Prim.Native.Nat.{ℕ, _+_, _*_, _-_, _≤_}
 use native.Mathlib.Omega.{arith}
 use native.Mathlib.Nat.{sub-zero}
 use denote.Ref.{now}
-use Rattle.fdfa.specs.Refusals.{given, refused}
-use Rattle.fdfa.specs.Inclusion.{largest}
+use Rattle.slices.specs.Refusals.{given, refused}
+use Rattle.slices.specs.Extremes.{largest}
 use Rattle.packed.specs.Layout.{letterCount, stateCount, sizeOf, progressAt, marksAt, Header}
-use Rattle.packed.specs.Faults.{firstOutside, progressFault, sizesOf, saysOf}
+use Rattle.slices.specs.Scans.{firstOutside}
+use Rattle.packed.specs.Faults.{progressFault, sizesOf}
 use Rattle.packed.proofs.Bounds.{few-both, progress-first, Body, body}
-use Rattle.fdfa.proofs.Refusals.{refuses, gives}
+use Rattle.slices.proofs.Refusals.{refuses, gives}
 use Rattle.packed.proofs.Scan.{fails-next, fails-marks, passes-state}
 use borrow.Author.Needs.{needs}
 use Rattle.packed.proofs.check_progress.Statement.{statement}
@@ -94,7 +95,7 @@ returns : tie.Need-returns Inv-loop μ-loop
 returns c =
     let d = c .before .before in
     let i = d .before .before .before .loop in
-    ap saysOf (c .refuse .ensures)
+    ap refused (c .refuse .ensures)
     ∙ ((λ j. refused (record { number = 5; part = start (d .before .before) .args .part; place = i .inv .1 j + d .first-outside .result }))
     ∙ refuses (sizesOf (now (start (d .before .before) .args .sheet)))
     (i .inv .2 ∙ fails-next _ _ (i .q) _ _ (search needs) (scanned d) (omega (arith, table-size (d .before), c .before .if1 .taken))))
@@ -121,7 +122,7 @@ returns-2 c =
     let d = c .before .before in
     let e = d .before .before in
     let i = e .before .before .before .loop in
-    ap saysOf (c .refuse2 .ensures)
+    ap refused (c .refuse2 .ensures)
     ∙ ((λ j. refused (record { number = 6; part = start (e .before .before) .args .part; place = part-of (e .before) .marks j + d .first-outside2 .result }))
     ∙ refuses (sizesOf (now (start (e .before .before) .args .sheet)))
     (i .inv .2

@@ -3,9 +3,9 @@ use mathlib.Core.Path.{_≡_, ap, sym, _∙_}
 use mathlib.Core.Bool.{not}
 use denote.Ref.{now}
 use borrow.Author.Tests.{eq-eqb, ne-eqb}
-use Rattle.fdfa.specs.declared.Part.the-variants.{Second}
-use Rattle.fdfa.specs.Refusals.{sound, given}
-use Rattle.fdfa.proofs.Refusals.{when-fails, when-passes, passed, failed, refuses, gives, was-given, was-refused}
+use Rattle.slices.specs.declared.Part.the-variants.{Second}
+use Rattle.slices.specs.Refusals.{sound, given, refused}
+use Rattle.slices.proofs.Refusals.{when-fails, when-passes, passed, failed, refuses, gives, was-given, was-refused}
 use Rattle.packed.specs.declared.Sizes.{Sizes}
 use Rattle.packed.specs.Layout.{letterCount}
 use Rattle.packed.specs.Faults.{sheetFault, sizesOf, saysOf, BothSizes}
@@ -34,10 +34,14 @@ enum-known-two c = search needs
 enum-known-two-2 : tie.Need-enum-known-two-2
 enum-known-two-2 c = search needs
 
+refuse-requires : tie.Need-refuse-requires
+refuse-requires c κs = search needs
+
 returns : tie.Need-returns
 returns c =
-    let d = c .before .before .before .before in
-    refuses (both (d .before .before)) (passed _ (sized d .0) ∙ when-fails 7 Second 0 (ap not (ne-eqb _ _ (λ e. c .if1 .taken (e ∙ sym (letters d))))))
+    let d = c .before .before .before .before .before in
+    ap refused (c .refuse .ensures)
+    ∙ refuses (both (d .before .before)) (passed _ (sized d .0) ∙ when-fails 7 Second 0 (ap not (ne-eqb _ _ (λ e. c .before .if1 .taken (e ∙ sym (letters d))))))
 
 returns-2 : tie.Need-returns-2
 returns-2 c =
@@ -53,4 +57,4 @@ returns-3 c =
 
 pub check-second-spec : {M : Type 1} → statement M
 check-second-spec =
-    tie.close (tie.spec check-requires enum-known-two enum-known-two-2 returns returns-2 returns-3)
+    tie.close (tie.spec check-requires enum-known-two enum-known-two-2 refuse-requires returns returns-2 returns-3)

@@ -4,7 +4,7 @@ use mathlib.Core.Logic.{⊎-elim}
 use Prim.Native.Nat.{ℕ, max, _+_, _-_, _≤_}
 use native.Mathlib.Omega.{arith}
 use native.Mathlib.Numerals.{add-one}
-use Rattle.fdfa.specs.Inclusion.{largest}
+use Rattle.slices.specs.Extremes.{largest}
 use Rattle.packed.specs.Layout.{sizeOf}
 use borrow.Author.Needs.{needs}
 use Rattle.packed.proofs.widest.Statement.{statement}

@@ -3,7 +3,7 @@ use mathlib.Core.Path.{refl, ap, _∙_}
 use mathlib.Core.List.{List}
 use Prim.Native.Nat.{ℕ}
 use denote.Ref.{now}
-use Rattle.fdfa.specs.Slices.{written}
+use Rattle.slices.specs.Filling.{written}
 use Rattle.players.specs.Layout.{layout}
 use Rattle.players.proofs.Answering.{compared-short, compared-long}
 use borrow.Author.Needs.{needs}

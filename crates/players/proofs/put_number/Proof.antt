@@ -4,7 +4,7 @@ use Prim.Native.Nat.{ℕ, _+_, _/_, _%_, _^_, _-_}
 use native.Mathlib.Omega.{arith}
 use native.Mathlib.Nat.{pow-suc, div-div-eq-div-mul, div-one}
 use native.Mathlib.Numerals.{add-one}
-use Rattle.packed.proofs.Filling.{Filling, filling-none, filling-more, filling-all}
+use Rattle.slices.proofs.Filling.{Filling, filling-none, filling-more, filling-all}
 use borrow.Author.Needs.{needs}
 use Rattle.players.proofs.put_number.Statement.{statement}
 use Rattle.players.proofs.put_number.Tie as tie

@@ -5,11 +5,10 @@ use Prim.Native.Nat.{ℕ, _+_, _*_, _-_, _≤_}
 use native.Mathlib.Omega.{arith}
 use denote.Ref.{now}
 use lib.ListN.{length, getD}
-use Rattle.fdfa.specs.Slices.{written}
-use Rattle.fdfa.proofs.Slices.{Begun, begun-as, lent-length, begun-more}
-use Rattle.packed.specs.Tables.{rows}
-use Rattle.packed.proofs.Tabulated.{length-tab, length-table}
-use Rattle.packed.proofs.Filling.{rows-begin, rows-next}
+use Rattle.slices.specs.Filling.{written}
+use Rattle.slices.proofs.Filling.{Begun, begun-as, lent-length, begun-more, rows-begin, rows-next}
+use Rattle.slices.specs.Tables.{rows}
+use Rattle.slices.proofs.Tables.{length-tab, length-table}
 use Rattle.players.specs.Layout.{numberBytes, layout}
 use borrow.Author.Needs.{needs}
 use Rattle.players.proofs.put_numbers.Statement.{statement}

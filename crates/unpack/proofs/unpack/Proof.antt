@@ -5,10 +5,10 @@ use lib.ListN.{length}
 use lib.Seq.{length-take-le}
 use denote.Ref.{now}
 use native.Mathlib.Omega.{arith}
-use Rattle.fdfa.specs.declared.Part.the-variants.{First}
+use Rattle.slices.specs.declared.Part.the-variants.{First}
 use Rattle.packed.specs.Faults.{sheetFault}
 use Rattle.notation.specs.Text.{textOf}
-use Rattle.notation.specs.Reading.{saysOf}
+use Rattle.slices.specs.Refusals.{writtenSays}
 use Rattle.console.proofs.Room.{fits}
 use borrow.Author.Needs.{needs}
 use Rattle.unpack.proofs.unpack.Statement.{statement}
@@ -19,7 +19,7 @@ room : (c : tie.After-answer2) → c .answer2 .given .0 .0 ≤ length (c .before
 room c =
     let e = c .before .before .before in
     let t = now (e .before .before .before .before .args .source) in
-    let h = fits (sheetFault First t) _ (length (textOf t)) (sym (ap saysOf (c .answer2 .given .1)) ∙ e .write .ensures .0) in
+    let h = fits (sheetFault First t) _ (length (textOf t)) (sym (ap writtenSays (c .answer2 .given .1)) ∙ e .write .ensures .0) in
     omega (arith, h, e .write .kept .1 .0)
 
 slice-aggregate-write : tie.Need-slice-aggregate-write

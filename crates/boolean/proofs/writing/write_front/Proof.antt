@@ -5,42 +5,41 @@ use Prim.Native.Nat.{ℕ, _+_, _*_, _-_, _≤_}
 use native.Mathlib.Omega.{arith}
 use denote.Ref.{now}
 use lib.ListN.{length, take, drop, set, length-set, length-append}
-use Rattle.fdfa.specs.Slices.{written}
-use Rattle.fdfa.proofs.Slices.{Begun, begun-none, begun-cell, begun-more, lent-length}
-use Rattle.packed.specs.Tables.{tab}
-use Rattle.packed.specs.Layout.{table}
-use Rattle.packed.proofs.Tabulated.{length-tab, length-table}
+use Rattle.slices.specs.Filling.{written}
+use Rattle.slices.proofs.Filling.{Begun, begun-none, begun-cell, begun-more, lent-length}
+use Rattle.slices.specs.Tables.{tab, table}
+use Rattle.slices.proofs.Tables.{length-tab, length-table}
 use Rattle.boolean.specs.Operations.{pairNext, pairSize}
 use Rattle.boolean.proofs.Pairing.{sizes-read, lead-read, front-is}
 use borrow.Author.Needs.{needs}
 use Rattle.boolean.proofs.writing.write_front.Statement.{statement}
 use Rattle.boolean.proofs.writing.write_front.Tie as tie
 
-abbrev start : tie.After-byte2 → tie.Start
+abbrev start : tie.After-narrow2 → tie.Start
 start c = c .before .before .before .before .before
 
-abbrev old : tie.After-byte2 → List ℕ
+abbrev old : tie.After-narrow2 → List ℕ
 old c = now (start c .args .out)
 
-abbrev counts : tie.After-byte2 → List ℕ
-counts c = c .before .byte .result ∷ c .byte2 .result ∷ []
+abbrev counts : tie.After-narrow2 → List ℕ
+counts c = c .before .narrow .result ∷ c .narrow2 .result ∷ []
 
 few-count : (c : tie.Start) → c .args .count ≤ 32
 few-count c = omega (arith, c .pre .0 .2, c .pre .0 .0 .few-pairs)
 
-begun-counts : (c : tie.After-byte2) → Begun (counts c) (old c) (set (set (old c) 0 (c .before .byte .result)) 1 (c .byte2 .result))
+begun-counts : (c : tie.After-narrow2) → Begun (counts c) (old c) (set (set (old c) 0 (c .before .narrow .result)) 1 (c .narrow2 .result))
 begun-counts c =
-    begun-cell (c .byte2 .result) (begun-cell (c .before .byte .result) (begun-none (old c)) refl (omega (arith, start c .pre .1))) refl (omega (arith, start c .pre .1))
+    begun-cell (c .narrow2 .result) (begun-cell (c .before .narrow .result) (begun-none (old c)) refl (omega (arith, start c .pre .1))) refl (omega (arith, start c .pre .1))
 
-abbrev sizes : tie.After-byte2 → List ℕ
+abbrev sizes : tie.After-narrow2 → List ℕ
 sizes c = let s = start c .args in tab (s .count) (pairSize (now (s .first)) (now (s .second)) (s .width))
 
-sizes-length : (c : tie.After-byte2) → length (sizes c) ≡ start c .args .count
+sizes-length : (c : tie.After-narrow2) → length (sizes c) ≡ start c .args .count
 sizes-length c = length-tab _ _
 
 -- the slice after the counts
-abbrev first-out : tie.After-byte2 → List ℕ
-first-out c = set (set (old c) 0 (c .before .byte .result)) 1 (c .byte2 .result)
+abbrev first-out : tie.After-narrow2 → List ℕ
+first-out c = set (set (old c) 0 (c .before .narrow .result)) 1 (c .narrow2 .result)
 
 abbrev second-out : tie.After-write-sizes → List ℕ
 second-out c =
@@ -51,7 +50,7 @@ begun-sizes c =
     let d = c .before .before in
     begun-more (sizes d) _ (begun-counts d) refl (omega (arith, sizes-length d, start d .pre .1)) (c .write-sizes .ensures)
 
-both-length : (c : tie.After-byte2) → length (counts c ++ sizes c) ≡ 2 + start c .args .count
+both-length : (c : tie.After-narrow2) → length (counts c ++ sizes c) ≡ 2 + start c .args .count
 both-length c = length-append (counts c) (sizes c) ∙ ap (λ (x : ℕ). 2 + x) (sizes-length c)
 
 lead : (c : tie.After-states2) → List ℕ
@@ -63,15 +62,15 @@ lead-length : (c : tie.After-states2) → let s = start (c .before .before .befo
 unfolding lead
 lead-length c = length-table _ _ _
 
-byte-requires : tie.Need-byte-requires
-byte-requires c κs =
+narrow-requires : tie.Need-narrow-requires
+narrow-requires c κs =
     let p = c .before .before .before .pre .0 .0 in omega (arith, p .letters-are, p .first .header .few-letters)
 
 slice-write-out : tie.Need-slice-write-out
 slice-write-out c = omega (arith, c .before .before .before .before .pre .1)
 
-byte-requires-2 : tie.Need-byte-requires-2
-byte-requires-2 c κs = omega (arith, few-count (c .before .before .before .before))
+narrow-requires-2 : tie.Need-narrow-requires-2
+narrow-requires-2 c κs = omega (arith, few-count (c .before .before .before .before))
 
 slice-write-out-2 : tie.Need-slice-write-out-2
 slice-write-out-2 c = simp length-set (omega (arith, start c .pre .1))
@@ -147,16 +146,16 @@ returns c =
     let b = d .before .before in
     let s = start b in
     begun-more (lead e) _ (begun-sizes d) (both-length b) (omega (arith, lead-length e, s .pre .1)) (c .before .before .write-table .ensures) .cells
-    ∙ ap (λ (l : List ℕ). written l (old b)) (ap (λ (z : ℕ). ((b .before .byte .result ∷ z ∷ []) ++ sizes b) ++ lead e) (b .byte2 .ensures)
-    ∙ front-is (now (s .args .first)) (now (s .args .second)) (s .args .letters) (s .pre .0 .0) (s .args .width) (s .pre .0 .1) _ _ (ap (λ (n : ℕ). 2 + n) (e .before .states .ensures)) (ap (λ (n : ℕ). 2 + n) (e .states2 .ensures)) _ (s .args .count) (b .before .byte .ensures ∙ s .pre .0 .0 .letters-are) (s .pre .0 .2))
+    ∙ ap (λ (l : List ℕ). written l (old b)) (ap (λ (z : ℕ). ((b .before .narrow .result ∷ z ∷ []) ++ sizes b) ++ lead e) (b .narrow2 .ensures)
+    ∙ front-is (now (s .args .first)) (now (s .args .second)) (s .args .letters) (s .pre .0 .0) (s .args .width) (s .pre .0 .1) _ _ (ap (λ (n : ℕ). 2 + n) (e .before .states .ensures)) (ap (λ (n : ℕ). 2 + n) (e .states2 .ensures)) _ (s .args .count) (b .before .narrow .ensures ∙ s .pre .0 .0 .letters-are) (s .pre .0 .2))
 
 pub write-front-spec : {M : Type 1} → statement M
 write-front-spec =
     tie.close
     (tie.spec
-    byte-requires
+    narrow-requires
     slice-write-out
-    byte-requires-2
+    narrow-requires-2
     slice-write-out-2
     sub-write-sizes
     part-write-sizes-start

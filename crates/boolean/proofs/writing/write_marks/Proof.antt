@@ -5,7 +5,7 @@ use Prim.Native.Nat.{_-_}
 use native.Mathlib.Omega.{arith}
 use denote.Ref.{now}
 use Rattle.packed.specs.Layout.{mark}
-use Rattle.packed.proofs.Filling.{Filling, filling-none, filling-more, filling-all}
+use Rattle.slices.proofs.Filling.{Filling, filling-none, filling-more, filling-all}
 use Rattle.boolean.specs.Operations.{opOf, pairMark, MarkReads}
 use borrow.Author.Needs.{needs}
 use Rattle.boolean.proofs.writing.write_marks.Statement.{statement}

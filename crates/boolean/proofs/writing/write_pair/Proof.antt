@@ -4,7 +4,7 @@ use mathlib.Core.List.{List}
 use Prim.Native.Nat.{ℕ}
 use native.Mathlib.Omega.{arith}
 use denote.Ref.{now}
-use Rattle.fdfa.specs.Slices.{written}
+use Rattle.slices.specs.Filling.{written}
 use Rattle.boolean.proofs.Pairing.{Sides, sides}
 use borrow.Author.Needs.{needs}
 use Rattle.boolean.proofs.writing.write_pair.Statement.{statement}

@@ -6,13 +6,12 @@ use native.Mathlib.Omega.{arith}
 use native.Mathlib.Nat.{mod-lt}
 use denote.Ref.{now}
 use lib.ListN.{length, take, drop, length-append}
-use Rattle.fdfa.specs.Slices.{written}
-use Rattle.fdfa.proofs.Slices.{Begun, begun-none, begun-as, begun-more, lent-length}
+use Rattle.slices.specs.Filling.{written}
+use Rattle.slices.proofs.Filling.{Begun, begun-none, begun-as, begun-more, lent-length, rows-next}
 use Rattle.fdfa.proofs.Product.{left-below}
-use Rattle.packed.specs.Tables.{rows}
+use Rattle.slices.specs.Tables.{rows}
 use Rattle.packed.specs.Layout.{stateCount, decode}
-use Rattle.packed.proofs.Tabulated.{rows-within}
-use Rattle.packed.proofs.Filling.{rows-next}
+use Rattle.slices.proofs.Tables.{rows-within}
 use Rattle.boolean.specs.declared.Operation.{Operation}
 use Rattle.boolean.specs.Operations.{opOf, pairPart}
 use borrow.Author.Needs.{needs}

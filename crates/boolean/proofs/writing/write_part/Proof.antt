@@ -1,10 +1,9 @@
 -- `boolean::writing::write_part` meets its contract: the table, then the marks. Assumes nothing.
 use native.Mathlib.Omega.{arith}
 use denote.Ref.{now}
-use Rattle.fdfa.proofs.Slices.{Begun, begun-first, begun-more}
-use Rattle.packed.specs.Tables.{tab}
-use Rattle.packed.specs.Layout.{table}
-use Rattle.packed.proofs.Tabulated.{length-tab, length-table}
+use Rattle.slices.proofs.Filling.{Begun, begun-first, begun-more}
+use Rattle.slices.specs.Tables.{tab, table}
+use Rattle.slices.proofs.Tables.{length-tab, length-table}
 use Rattle.boolean.specs.Operations.{pairNext, pairMark}
 use borrow.Author.Needs.{needs}
 use Rattle.boolean.proofs.writing.write_part.Statement.{statement}

@@ -4,7 +4,7 @@ use Prim.Native.Nat.{_+_, _*_, _-_, _≤_}
 use native.Mathlib.Omega.{arith}
 use denote.Ref.{now}
 use lib.ListN.{length, length-append}
-use Rattle.fdfa.proofs.Slices.{Begun, begun-first, begun-more, lent-length}
+use Rattle.slices.proofs.Filling.{Begun, begun-first, begun-more, lent-length}
 use Rattle.packed.specs.Layout.{decode}
 use Rattle.packed.proofs.Bounds.{few-both}
 use Rattle.boolean.specs.Operations.{opOf, productFront, productParts}

@@ -3,7 +3,7 @@ use mathlib.Core.Path.{_≡_, ap, ap₂, _∙_}
 use Prim.Native.Nat.{ℕ, _+_, _*_, _-_, _<_}
 use native.Mathlib.Omega.{arith}
 use denote.Ref.{now}
-use Rattle.packed.proofs.Filling.{Filling, filling-none, filling-more, filling-all}
+use Rattle.slices.proofs.Filling.{Filling, filling-none, filling-more, filling-all}
 use Rattle.boolean.specs.Operations.{pairNext}
 use borrow.Author.Needs.{needs}
 use Rattle.boolean.proofs.writing.write_row.Statement.{statement}
@@ -41,8 +41,8 @@ loop-holds c = filling-none _ _ _ (c .before .before .before .pre .1)
 next-requires : tie.Need-next-requires Inv-loop μ-loop
 next-requires c κs = start (c .before) .pre .0 .first (c .before .loop .a) (c .loop-test .taken)
 
-mul-byte : tie.Need-mul-byte Inv-loop μ-loop
-mul-byte c =
+mul-narrow : tie.Need-mul-narrow Inv-loop μ-loop
+mul-narrow c =
     let i = c .before .before in
     let s = start i in
     omega (arith, ap (λ (y : ℕ). y * s .args .t .width) (c .next .ensures), s .pre .0 .byte (i .loop .a) (c .before .loop-test .taken))
@@ -50,11 +50,11 @@ mul-byte c =
 next-requires-2 : tie.Need-next-requires-2 Inv-loop μ-loop
 next-requires-2 c κs = start (c .before .before) .pre .0 .second (c .before .before .loop .a) (c .before .loop-test .taken)
 
-add-byte : tie.Need-add-byte Inv-loop μ-loop
-add-byte c = omega (arith, small c)
+add-narrow : tie.Need-add-narrow Inv-loop μ-loop
+add-narrow c = omega (arith, small c)
 
-byte-requires : tie.Need-byte-requires Inv-loop μ-loop
-byte-requires c κs = small c
+narrow-requires : tie.Need-narrow-requires Inv-loop μ-loop
+narrow-requires c κs = small c
 
 slice-write-out : tie.Need-slice-write-out Inv-loop μ-loop
 slice-write-out c =
@@ -68,7 +68,7 @@ loop-less c = search needs
 
 loop-again : tie.Need-loop-again Inv-loop μ-loop
 loop-again c =
-    filling-more _ (c .before .before .before .before .loop .inv) (c .before .before .before .loop-test .taken) (c .byte .ensures ∙ next-is (c .before))
+    filling-more _ (c .before .before .before .before .loop .inv) (c .before .before .before .loop-test .taken) (c .narrow .ensures ∙ next-is (c .before))
 
 same-length : tie.Need-same-length Inv-loop μ-loop
 same-length c = c .before .loop .inv .same
@@ -86,10 +86,10 @@ write-row-spec =
     rem-q
     loop-holds
     next-requires
-    mul-byte
+    mul-narrow
     next-requires-2
-    add-byte
-    byte-requires
+    add-narrow
+    narrow-requires
     slice-write-out
     add-a
     loop-less

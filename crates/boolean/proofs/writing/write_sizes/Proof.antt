@@ -3,7 +3,7 @@ use mathlib.Core.Path.{_≡_, ap₂, _∙_}
 use Prim.Native.Nat.{ℕ, _*_, _-_}
 use native.Mathlib.Omega.{arith}
 use denote.Ref.{now}
-use Rattle.packed.proofs.Filling.{Filling, filling-none, filling-more, filling-all}
+use Rattle.slices.proofs.Filling.{Filling, filling-none, filling-more, filling-all}
 use Rattle.boolean.specs.Operations.{pairSize, SizeReads}
 use borrow.Author.Needs.{needs}
 use Rattle.boolean.proofs.writing.write_sizes.Statement.{statement}
@@ -40,11 +40,11 @@ rem-size c = omega (arith, reads (c .before) .wide)
 size-requires-2 : tie.Need-size-requires-2 Inv-loop μ-loop
 size-requires-2 c κs = reads (c .before) .second
 
-mul-byte : tie.Need-mul-byte Inv-loop μ-loop
-mul-byte c = omega (arith, size-is c, reads (c .before .before) .byte)
+mul-narrow : tie.Need-mul-narrow Inv-loop μ-loop
+mul-narrow c = omega (arith, size-is c, reads (c .before .before) .byte)
 
-byte-requires : tie.Need-byte-requires Inv-loop μ-loop
-byte-requires c κs = omega (arith, size-is c, reads (c .before .before) .byte)
+narrow-requires : tie.Need-narrow-requires Inv-loop μ-loop
+narrow-requires c κs = omega (arith, size-is c, reads (c .before .before) .byte)
 
 slice-write-out : tie.Need-slice-write-out Inv-loop μ-loop
 slice-write-out c =
@@ -58,7 +58,7 @@ loop-less c = search needs
 
 loop-again : tie.Need-loop-again Inv-loop μ-loop
 loop-again c =
-    filling-more _ (c .before .before .before .before .loop .inv) (c .before .before .before .loop-test .taken) (c .byte .ensures ∙ size-is (c .before))
+    filling-more _ (c .before .before .before .before .loop .inv) (c .before .before .before .loop-test .taken) (c .narrow .ensures ∙ size-is (c .before))
 
 same-length : tie.Need-same-length Inv-loop μ-loop
 same-length c = c .before .loop .inv .same
@@ -77,8 +77,8 @@ write-sizes-spec =
     size-requires
     rem-size
     size-requires-2
-    mul-byte
-    byte-requires
+    mul-narrow
+    narrow-requires
     slice-write-out
     add-x
     loop-less

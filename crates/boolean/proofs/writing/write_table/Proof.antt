@@ -6,12 +6,10 @@ use native.Mathlib.Omega.{arith}
 use native.Mathlib.Nat.{add-mul, one-mul, mul-le-mul-right, zero-mul}
 use denote.Ref.{now}
 use lib.ListN.{length}
-use Rattle.fdfa.specs.Slices.{written}
-use Rattle.fdfa.proofs.Slices.{Begun, begun-as, lent-length, begun-more}
-use Rattle.packed.specs.Tables.{tab}
-use Rattle.packed.specs.Layout.{table}
-use Rattle.packed.proofs.Tabulated.{length-tab, length-table}
-use Rattle.packed.proofs.Filling.{rows-begin, rows-next}
+use Rattle.slices.specs.Filling.{written}
+use Rattle.slices.proofs.Filling.{Begun, begun-as, lent-length, begun-more, rows-begin, rows-next}
+use Rattle.slices.specs.Tables.{tab, table}
+use Rattle.slices.proofs.Tables.{length-tab, length-table}
 use Rattle.boolean.specs.declared.Beside.{Beside}
 use Rattle.boolean.specs.Operations.{pairNext}
 use borrow.Author.Needs.{needs}

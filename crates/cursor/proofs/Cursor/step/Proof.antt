@@ -1,15 +1,22 @@
 -- `Cursor::step` meets its contract. Assumes nothing.
-use mathlib.Core.Path.{_∙_}
+use mathlib.Core.Path.{ap, _∙_}
 use denote.Ref.{now}
 use Rattle.cursor.specs.declared.Playing.the-variants.{Prefix, Period}
+use Rattle.slices.specs.declared.Refusal.{Refusal}
+use Rattle.cursor.specs.Walking.{stays}
 use Rattle.cursor.proofs.Stepping.{is-prefix, is-period, step-refused, step-passes}
 use borrow.Author.Needs.{needs}
 use Rattle.cursor.proofs.Cursor.step.Statement.{statement}
 use Rattle.cursor.proofs.Cursor.step.Tie as tie
 
+refuse-requires : tie.Need-refuse-requires
+refuse-requires c κs = search needs
+
 returns : tie.Need-returns
 returns c =
-    let s = c .before .before .before .args in step-refused (s .self) (now (s .prefix)) (now (s .period)) (c .if1 .taken)
+    let d = c .before in
+    let s = d .before .before .before .args in
+    ap (λ (r : Refusal). stays r (s .self)) (c .refuse .ensures) ∙ step-refused (s .self) (now (s .prefix)) (now (s .period)) (d .if1 .taken)
 
 enum-told : tie.Need-enum-told
 enum-told c = search needs
@@ -38,4 +45,4 @@ returns-3 c =
 pub step-spec : {M : Type 1} → statement M
 step-spec =
     tie.close
-    (tie.spec returns enum-told pass-requires enum-told-2 pass-requires-2 returns-2 returns-3)
+    (tie.spec refuse-requires returns enum-told pass-requires enum-told-2 pass-requires-2 returns-2 returns-3)

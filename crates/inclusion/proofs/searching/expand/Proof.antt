@@ -79,18 +79,18 @@ progress-cell c =
     cell-few (s .args .g .count) _ (s .args .x - divided l * s .args .g .count) (l .loop .a) (tabled s .few-progress) (joint s .leads .few-letters) (omega (arith, progress-in l, remainder-is l)) (c .if1 .taken)
 
 -- the pair that the letter leads to
-lead-is : (w : tie.After-wide Inv-loop μ-loop) → let l = w .before .before .before .before in
-    w .wide .result ≡ stepOf (now (start l .args .first)) (now (start l .args .second)) (start l .args .t) (start l .args .x / start l .args .g .count) (l .loop .a)
+lead-is : (w : tie.After-wide16 Inv-loop μ-loop) → let l = w .before .before .before .before in
+    w .wide16 .result ≡ stepOf (now (start l .args .first)) (now (start l .args .second)) (start l .args .t) (start l .args .x / start l .args .g .count) (l .loop .a)
 lead-is w =
     let d = w .before .before in
     let l = d .before .before in
     let s = start l in
-    w .wide .ensures ∙ (ap (λ (k : ℕ). getD (now (s .args .leads)) (k * s .args .t .letters + l .loop .a) 0) (quotient-is l) ∙ tabled s .of-leads .steps _ _ (pair-in l) (d .if1 .taken))
+    w .wide16 .ensures ∙ (ap (λ (k : ℕ). getD (now (s .args .leads)) (k * s .args .t .letters + l .loop .a) 0) (quotient-is l) ∙ tabled s .of-leads .steps _ _ (pair-in l) (d .if1 .taken))
 
 -- the combination that the letter leads to
-stepped : (c : tie.After-wide2 Inv-loop μ-loop) → let w = c .before .before .before in let l = w .before .before .before .before in
+stepped : (c : tie.After-wide162 Inv-loop μ-loop) → let w = c .before .before .before in let l = w .before .before .before .before in
     beside (start l .args .g .count) (stepOf (now (start l .args .first)) (now (start l .args .second)) (start l .args .t)) (stepOf (now (start l .args .first)) (now (start l .args .second)) (start l .args .g .tables)) (start l .args .x) (l .loop .a)
-    ≡ w .wide .result * start l .args .g .count + c .wide2 .result
+    ≡ w .wide16 .result * start l .args .g .count + c .wide162 .result
 stepped c =
     let w = c .before .before .before in
     let d = w .before .before in
@@ -99,11 +99,11 @@ stepped c =
     let a : l .loop .a < s .args .t .letters = d .if1 .taken in
     sym (ap₂ (λ (y z : ℕ). y * s .args .g .count + z)
     (lead-is w)
-    (c .wide2 .ensures
+    (c .wide162 .ensures
     ∙ ((λ i. getD (now (s .args .rows)) (remainder-is l i * sym (joint s .alike) i + l .loop .a) 0) ∙ tabled s .of-progress .steps _ _ (progress-in l) (omega (arith, joint s .alike)))))
 
-next-in : (c : tie.After-wide2 Inv-loop μ-loop) → let w = c .before .before .before in let l = w .before .before .before .before in
-    w .wide .result * start l .args .g .count + c .wide2 .result < length (now (start l .args .cells))
+next-in : (c : tie.After-wide162 Inv-loop μ-loop) → let w = c .before .before .before in let l = w .before .before .before .before in
+    w .wide16 .result * start l .args .g .count + c .wide162 .result < length (now (start l .args .cells))
 next-in c =
     let d = c .before .before .before .before .before in
     let l = d .before .before in
@@ -160,17 +160,17 @@ mul-progress-2 c =
 loop-holds : tie.Need-loop-holds Inv-loop μ-loop
 loop-holds c = begun (c .before .before .before .before .before .before .before .before .before)
 
-add-wide : tie.Need-add-wide Inv-loop μ-loop
-add-wide c = omega (arith, lead-cell c)
+add-wide16 : tie.Need-add-wide16 Inv-loop μ-loop
+add-wide16 c = omega (arith, lead-cell c)
 
-mul-wide : tie.Need-mul-wide Inv-loop μ-loop
-mul-wide c = omega (arith, lead-cell c)
+mul-wide16 : tie.Need-mul-wide16 Inv-loop μ-loop
+mul-wide16 c = omega (arith, lead-cell c)
 
-shared-slice-read-wide : tie.Need-shared-slice-read-wide Inv-loop μ-loop
-shared-slice-read-wide c = let d = c .before in omega (arith, lead-cell d, tabled (start (d .before .before)) .of-leads .long)
+shared-slice-read-wide16 : tie.Need-shared-slice-read-wide16 Inv-loop μ-loop
+shared-slice-read-wide16 c = let d = c .before in omega (arith, lead-cell d, tabled (start (d .before .before)) .of-leads .long)
 
-wide-requires : tie.Need-wide-requires Inv-loop μ-loop
-wide-requires c κs = tt
+wide16-requires : tie.Need-wide16-requires Inv-loop μ-loop
+wide16-requires c κs = tt
 
 mul-next : tie.Need-mul-next Inv-loop μ-loop
 mul-next c =
@@ -178,24 +178,24 @@ mul-next c =
     let d = w .before .before in
     let l = d .before .before in
     let s = start l in
-    let lead : w .wide .result < joint s .states = omega (arith, lead-is w, joint s .leads .closed _ _ (lead-in l) (d .if1 .taken)) in
-    let few : w .wide .result ≤ 1048576 = omega (arith, joint s .leads .few) in
-    let most : w .wide .result * s .args .g .count ≤ 1048576 * 1024 = mul-le-mul few (tabled s .few-progress) in
+    let lead : w .wide16 .result < joint s .states = omega (arith, lead-is w, joint s .leads .closed _ _ (lead-in l) (d .if1 .taken)) in
+    let few : w .wide16 .result ≤ 1048576 = omega (arith, joint s .leads .few) in
+    let most : w .wide16 .result * s .args .g .count ≤ 1048576 * 1024 = mul-le-mul few (tabled s .few-progress) in
     omega arith
 
-add-wide-2 : tie.Need-add-wide-2 Inv-loop μ-loop
-add-wide-2 c = omega (arith, progress-cell (c .before .before .before))
+add-wide16-2 : tie.Need-add-wide16-2 Inv-loop μ-loop
+add-wide16-2 c = omega (arith, progress-cell (c .before .before .before))
 
-mul-wide-2 : tie.Need-mul-wide-2 Inv-loop μ-loop
-mul-wide-2 c = omega (arith, progress-cell (c .before .before .before))
+mul-wide16-2 : tie.Need-mul-wide16-2 Inv-loop μ-loop
+mul-wide16-2 c = omega (arith, progress-cell (c .before .before .before))
 
-shared-slice-read-wide-2 : tie.Need-shared-slice-read-wide-2 Inv-loop μ-loop
-shared-slice-read-wide-2 c =
+shared-slice-read-wide16-2 : tie.Need-shared-slice-read-wide16-2 Inv-loop μ-loop
+shared-slice-read-wide16-2 c =
     let d = c .before .before .before .before in
     omega (arith, progress-cell d, tabled (start (d .before .before)) .of-progress .long)
 
-wide-requires-2 : tie.Need-wide-requires-2 Inv-loop μ-loop
-wide-requires-2 c κs = tt
+wide16-requires-2 : tie.Need-wide16-requires-2 Inv-loop μ-loop
+wide16-requires-2 c κs = tt
 
 add-next : tie.Need-add-next Inv-loop μ-loop
 add-next c = omega (arith, next-in c, joint (start (c .before .before .before .before .before .before .before)) .few)
@@ -244,15 +244,15 @@ expand-spec =
     sub-progress
     mul-progress-2
     loop-holds
-    add-wide
-    mul-wide
-    shared-slice-read-wide
-    wide-requires
+    add-wide16
+    mul-wide16
+    shared-slice-read-wide16
+    wide16-requires
     mul-next
-    add-wide-2
-    mul-wide-2
-    shared-slice-read-wide-2
-    wide-requires-2
+    add-wide16-2
+    mul-wide16-2
+    shared-slice-read-wide16-2
+    wide16-requires-2
     add-next
     discover-requires
     add-a

@@ -52,8 +52,8 @@ loop-holds c = (search needs, record { long = refl; own = λ a h. absurd (omega 
 next-pair-requires : tie.Need-next-pair-requires Inv-loop μ-loop
 next-pair-requires c κs = let s = start (c .before) in (s .pre .0 .0 .reads (s .args .p) (s .pre .0 .2), c .loop-test .taken)
 
-narrow-requires : tie.Need-narrow-requires Inv-loop μ-loop
-narrow-requires c κs = omega (arith, next-few c)
+narrow16-requires : tie.Need-narrow16-requires Inv-loop μ-loop
+narrow16-requires c κs = omega (arith, next-few c)
 
 add-out : tie.Need-add-out Inv-loop μ-loop
 add-out c = let i = c .before .before .before in omega (arith, start i .pre .1 .0, c .before .before .loop-test .taken)
@@ -77,7 +77,7 @@ loop-again c =
     let d = c .before .before in
     let i = d .before in
     let s = start i in
-    (search needs, more _ _ _ _ _ _ _ (i .loop .a) _ (i .loop .inv .1) (omega (arith, s .pre .1 .0, s .pre .1 .1, d .loop-test .taken)) (c .narrow .ensures ∙ c .before .next-pair .ensures))
+    (search needs, more _ _ _ _ _ _ _ (i .loop .a) _ (i .loop .inv .1) (omega (arith, s .pre .1 .0, s .pre .1 .1, d .loop-test .taken)) (c .narrow16 .ensures ∙ c .before .next-pair .ensures))
 
 same-length : tie.Need-same-length Inv-loop μ-loop
 same-length c = c .before .loop .inv .1 .long
@@ -97,7 +97,7 @@ write-row-spec =
     rem-y
     loop-holds
     next-pair-requires
-    narrow-requires
+    narrow16-requires
     add-out
     mul-out
     slice-write-out

@@ -4,9 +4,9 @@ use mathlib.Core.Bool.{not}
 use denote.Ref.{now}
 use lib.ListN.{length}
 use borrow.Author.Tests.{eq-eqb, ne-eqb}
-use Rattle.fdfa.specs.declared.Part.the-variants.{First}
-use Rattle.fdfa.proofs.Refusals.{when-fails, when-passes, refuses, gives}
-use Rattle.notation.specs.Reading.{stepSays}
+use Rattle.slices.specs.declared.Part.the-variants.{First}
+use Rattle.slices.proofs.Refusals.{when-fails, when-passes, refuses, gives}
+use Rattle.slices.specs.Refusals.{refused}
 use borrow.Author.Needs.{needs}
 use Rattle.notation.proofs.blocks.ended.Statement.{statement}
 use Rattle.notation.proofs.blocks.ended.Tie as tie
@@ -21,7 +21,7 @@ refuse-requires c κs = search needs
 returns-2 : tie.Need-returns-2
 returns-2 c =
     let s = c .before .before .before in
-    ap stepSays (c .refuse .ensures) ∙ refuses (s .args .at) (when-fails 11 First (s .args .at) (ap not (ne-eqb (s .args .at) (length (now (s .args .text))) (c .before .if1 .left))))
+    ap refused (c .refuse .ensures) ∙ refuses (s .args .at) (when-fails 11 First (s .args .at) (ap not (ne-eqb (s .args .at) (length (now (s .args .text))) (c .before .if1 .left))))
 
 pub ended-spec : {M : Type 1} → statement M
 ended-spec = tie.close (tie.spec returns refuse-requires returns-2)

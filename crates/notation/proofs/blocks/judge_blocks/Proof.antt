@@ -2,7 +2,7 @@
 use mathlib.Core.Path.{ap, sym, _∙_}
 use Prim.Native.Nat.{ℕ}
 use denote.Ref.{now}
-use Rattle.fdfa.specs.Refusals.{Result}
+use Rattle.slices.specs.Refusals.{Result}
 use Rattle.notation.specs.Reading.{_andThen_, leadingRowsAt, sizeIn, progressAt, endAt, blocksAt, stepSays}
 use Rattle.notation.proofs.Steps.{goes-on, stops}
 use borrow.Author.Needs.{needs}

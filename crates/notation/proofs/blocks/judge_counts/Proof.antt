@@ -2,7 +2,7 @@
 use mathlib.Core.Path.{_≡_, ap, sym, subst, _∙_}
 use Prim.Native.Nat.{ℕ, _≤_}
 use denote.Ref.{now}
-use Rattle.fdfa.specs.Refusals.{Result, given}
+use Rattle.slices.specs.Refusals.{Result, given}
 use Rattle.notation.specs.declared.Row.{Row}
 use Rattle.notation.specs.Numerals.{entry}
 use Rattle.notation.specs.Reading.{rowAt, countsRow, blocksAt, countsAt, stepSays}

@@ -1,7 +1,7 @@
 -- `notation::blocks::progress_block` meets its contract. Assumes nothing.
 use mathlib.Core.Path.{ap, sym, _∙_}
 use Prim.Native.Nat.{ℕ}
-use Rattle.fdfa.specs.Refusals.{Result}
+use Rattle.slices.specs.Refusals.{Result}
 use denote.Ref.{now}
 use Rattle.notation.specs.Reading.{sizeIn, partsAt, progressAt, stepSays}
 use Rattle.notation.proofs.Steps.{goes-on, stops}

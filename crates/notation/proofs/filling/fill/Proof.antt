@@ -6,7 +6,7 @@ use native.Mathlib.Omega.{arith}
 use native.Mathlib.Nat.{mul-le-mul}
 use denote.Ref.{now}
 use lib.ListN.{length}
-use Rattle.packed.specs.Tables.{rows}
+use Rattle.slices.specs.Tables.{rows}
 use Rattle.packed.specs.Layout.{frontBytes, partBytes}
 use Rattle.notation.specs.Text.{names}
 use Rattle.notation.specs.Numerals.{skips}

@@ -6,7 +6,7 @@ use native.Mathlib.Omega.{arith}
 use denote.Ref.{now}
 use lib.ListN.{length}
 use lib.Seq.{lt-length-set}
-use Rattle.packed.proofs.Tabulated.{length-tab}
+use Rattle.slices.proofs.Tables.{length-tab}
 use Rattle.notation.specs.Numerals.{entry}
 use Rattle.notation.proofs.Stores.{stored-length}
 use Rattle.notation.proofs.Measures.{front-few}

@@ -2,7 +2,7 @@
 use Prim.Native.Nat.{_+_, _*_}
 use native.Mathlib.Omega.{arith}
 use denote.Ref.{now}
-use Rattle.packed.proofs.Tabulated.{length-table}
+use Rattle.slices.proofs.Tables.{length-table}
 use Rattle.notation.specs.Numerals.{entry}
 use Rattle.notation.proofs.Stores.{stored-length}
 use Rattle.notation.proofs.Gathered.{s-few, k-few, table-few, marks-few, part-size, part-stored}

@@ -5,7 +5,7 @@ use Prim.Native.Nat.{ℕ, _+_, _*_, _-_, _≤_, _<_}
 use native.Mathlib.Omega.{arith}
 use native.Mathlib.Nat.{mul-le-mul}
 use denote.Ref.{now}
-use Rattle.packed.specs.Tables.{rows, sum}
+use Rattle.slices.specs.Tables.{rows, sum}
 use Rattle.packed.specs.Layout.{partBytes}
 use Rattle.notation.specs.Numerals.{skips}
 use Rattle.notation.specs.Reading.{lettersIn, statesIn, progressIn, sizeIn, familyOf}

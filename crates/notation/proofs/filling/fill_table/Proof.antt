@@ -4,8 +4,8 @@ use Prim.Native.Nat.{ℕ, _+_, _*_, _-_, _≤_, _<_}
 use native.Mathlib.Omega.{arith}
 use native.Mathlib.Nat.{mul-le-mul}
 use denote.Ref.{now}
-use Rattle.packed.specs.Tables.{tab, rows}
-use Rattle.packed.proofs.Tabulated.{length-tab, tab-same}
+use Rattle.slices.specs.Tables.{tab, rows}
+use Rattle.slices.proofs.Tables.{length-tab, tab-same}
 use Rattle.notation.specs.Numerals.{entry}
 use Rattle.notation.specs.Writing.{Stored}
 use Rattle.notation.proofs.Stores.{stored-none-rows, stored-row, stored-length, stored-as}

@@ -5,7 +5,7 @@ use Prim.Native.Nat.{ℕ, _+_, _*_, _-_, _≤_, _<_}
 use native.Mathlib.Omega.{arith}
 use native.Mathlib.Nat.{mul-le-mul}
 use denote.Ref.{now}
-use Rattle.packed.specs.Tables.{tab}
+use Rattle.slices.specs.Tables.{tab}
 use Rattle.notation.specs.Numerals.{entry}
 use Rattle.notation.specs.Writing.{Stored}
 use Rattle.notation.proofs.Stores.{stored-none-tab, stored-entry, stored-byte, stored-length, stored-as}

@@ -4,7 +4,7 @@ use mathlib.Core.List.{List}
 use Prim.Native.Nat.{ℕ, _+_, _*_, _-_, _≤_, _<_}
 use native.Mathlib.Omega.{arith}
 use denote.Ref.{now}
-use Rattle.packed.specs.Tables.{sum}
+use Rattle.slices.specs.Tables.{sum}
 use Rattle.notation.specs.Reading.{statesIn, sizeIn, familyOf}
 use Rattle.notation.proofs.Measures.{partLength, front-few, part-room, sum-room, sum-next, sum-none, bytes-length}
 use borrow.Author.Needs.{needs}

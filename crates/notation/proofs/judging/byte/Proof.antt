@@ -1,7 +1,7 @@
 -- `notation::judging::byte` meets its contract. Assumes nothing.
 use mathlib.Core.Path.{ap, sym, _∙_}
 use denote.Ref.{now}
-use Rattle.notation.specs.Reading.{stepSays}
+use Rattle.slices.specs.Refusals.{refused}
 use Rattle.notation.proofs.Steps.{byte-past, byte-here, byte-other}
 use borrow.Author.Needs.{needs}
 use Rattle.notation.proofs.judging.byte.Statement.{statement}
@@ -12,13 +12,13 @@ refuse-requires c κs = search needs
 
 returns : tie.Need-returns
 returns c =
-    let s = c .before .before .before in ap stepSays (c .refuse .ensures) ∙ sym (byte-past (now (s .args .text)) (s .args .c) (s .args .at) (c .before .if1 .taken))
+    let s = c .before .before .before in ap refused (c .refuse .ensures) ∙ sym (byte-past (now (s .args .text)) (s .args .c) (s .args .at) (c .before .if1 .taken))
 
 shared-slice-read-if2 : tie.Need-shared-slice-read-if2
 shared-slice-read-if2 c = search needs
 
-add-t8 : tie.Need-add-t8
-add-t8 c = search needs
+add-t10 : tie.Need-add-t10
+add-t10 c = search needs
 
 returns-2 : tie.Need-returns-2
 returns-2 c =
@@ -30,7 +30,7 @@ refuse-requires-2 c κs = search needs
 returns-3 : tie.Need-returns-3
 returns-3 c =
     let s = c .before .before .before .before .before in
-    ap stepSays (c .refuse2 .ensures) ∙ sym (byte-other (now (s .args .text)) (s .args .c) (s .args .at) (c .before .before .before .if1 .left) (c .before .if2 .left))
+    ap refused (c .refuse2 .ensures) ∙ sym (byte-other (now (s .args .text)) (s .args .c) (s .args .at) (c .before .before .before .if1 .left) (c .before .if2 .left))
 
 pub byte-spec : {M : Type 1} → statement M
 byte-spec =
@@ -39,7 +39,7 @@ byte-spec =
     refuse-requires
     returns
     shared-slice-read-if2
-    add-t8
+    add-t10
     returns-2
     refuse-requires-2
     returns-3)

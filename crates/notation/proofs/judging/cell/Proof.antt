@@ -1,9 +1,9 @@
 -- `notation::judging::cell` meets its contract. Assumes nothing.
 use mathlib.Core.Path.{_≡_, ap, sym, _∙_}
 use denote.Ref.{now}
+use Rattle.slices.specs.Refusals.{refused}
 use Rattle.notation.specs.declared.Number.the-variants.{Good}
 use Rattle.notation.specs.Numerals.{numberAt}
-use Rattle.notation.specs.Reading.{stepSays}
 use Rattle.notation.proofs.Steps.{cell-bad, cell-low, cell-high, cell-good}
 use borrow.Author.Needs.{needs}
 use Rattle.notation.proofs.judging.cell.Statement.{statement}
@@ -31,7 +31,7 @@ returns : tie.Need-returns
 returns c =
     let s = c .before .before .before .before .before .before .before .before in
     let d = c .before .before .before .before in
-    ap stepSays (c .refuse2 .ensures) ∙ sym (cell-low (now (s .args .text)) (s .args .column) (s .args .end) (s .args .at) _ _ (good d) (c .before .if1 .taken))
+    ap refused (c .refuse2 .ensures) ∙ sym (cell-low (now (s .args .text)) (s .args .column) (s .args .end) (s .args .at) _ _ (good d) (c .before .if1 .taken))
 
 refuse-requires-3 : tie.Need-refuse-requires-3
 refuse-requires-3 c κs = search needs
@@ -40,7 +40,7 @@ returns-2 : tie.Need-returns-2
 returns-2 c =
     let s = c .before .before .before .before .before .before .before .before .before .before in
     let d = c .before .before .before .before .before .before in
-    ap stepSays (c .refuse3 .ensures) ∙ sym (cell-high (now (s .args .text)) (s .args .column) (s .args .end) (s .args .at) _ _ (good d) (c .before .before .before .if1 .left) (c .before .if2 .taken))
+    ap refused (c .refuse3 .ensures) ∙ sym (cell-high (now (s .args .text)) (s .args .column) (s .args .end) (s .args .at) _ _ (good d) (c .before .before .before .if1 .left) (c .before .if2 .taken))
 
 byte-requires : tie.Need-byte-requires
 byte-requires c κs = search needs
@@ -48,7 +48,7 @@ byte-requires c κs = search needs
 returns-3 : tie.Need-returns-3
 returns-3 c =
     let s = c .before .before .before .before .before .before in
-    ap stepSays (c .refuse .ensures) ∙ sym (cell-bad (now (s .args .text)) (s .args .column) (s .args .end) (s .args .at) _ (sym (c .before .before .before .before .number-at .ensures) ∙ c .before .before .found .given .1))
+    ap refused (c .refuse .ensures) ∙ sym (cell-bad (now (s .args .text)) (s .args .column) (s .args .end) (s .args .at) _ (sym (c .before .before .before .before .number-at .ensures) ∙ c .before .before .found .given .1))
 
 returns-4 : tie.Need-returns-4
 returns-4 c =

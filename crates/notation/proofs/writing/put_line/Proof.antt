@@ -3,7 +3,7 @@ use mathlib.Core.Path.{_≡_, ap}
 use Prim.Native.Nat.{ℕ, _+_, _*_, _-_, _≤_}
 use native.Mathlib.Omega.{arith}
 use denote.Ref.{now}
-use Rattle.packed.specs.Tables.{rows}
+use Rattle.slices.specs.Tables.{rows}
 use Rattle.notation.specs.Text.{cell, separator}
 use Rattle.notation.specs.Writing.{Stored, lineValue}
 use Rattle.notation.proofs.Stores.{stored-none-rows, stored-row, stored-length, stored-as}

@@ -4,7 +4,7 @@ use Prim.Native.Nat.{ℕ, _+_, _-_, _≤_}
 use native.Mathlib.Omega.{arith}
 use denote.Ref.{now}
 use lib.ListN.{getD}
-use Rattle.packed.specs.Tables.{tab}
+use Rattle.slices.specs.Tables.{tab}
 use Rattle.notation.specs.Writing.{Stored}
 use Rattle.notation.proofs.Stores.{stored-none-tab, stored-entry, stored-length, stored-as}
 use borrow.Author.Needs.{needs}

@@ -3,7 +3,7 @@ use mathlib.Core.Path.{_≡_, ap, _∙_}
 use Prim.Native.Nat.{ℕ, _+_, _*_, _-_, _≤_}
 use native.Mathlib.Omega.{arith}
 use denote.Ref.{now}
-use Rattle.packed.specs.Tables.{rows}
+use Rattle.slices.specs.Tables.{rows}
 use Rattle.packed.specs.Layout.{letterCount, stateCount, decode}
 use Rattle.notation.specs.Text.{head, progressTitle, partText}
 use Rattle.notation.specs.Writing.{Stored}

@@ -2,9 +2,9 @@
 use mathlib.Core.Path.{_≡_, refl, ap, sym, subst}
 use mathlib.Core.Bool.{Bool, true, false}
 use Prim.Native.Nat.{ℕ}
-use Rattle.fdfa.specs.declared.Part.{Part}
-use Rattle.fdfa.specs.declared.Refusal.{Refusal}
-use Rattle.fdfa.specs.Refusals.{Fault, sound, fault, _then_, when, Result, given, refused, unless}
+use Rattle.slices.specs.declared.Part.{Part}
+use Rattle.slices.specs.declared.Refusal.{Refusal}
+use Rattle.slices.specs.Refusals.{Fault, sound, fault, _then_, when, Result, given, refused, unless}
 
 pub when-fails : {t : Bool} (number : ℕ) (part : Part) (place : ℕ) → t ≡ true → when t number part place ≡ fault (record { number = number; part = part; place = place })
 when-fails number part place e = ap (λ (t : Bool). when t number part place) e

@@ -2,7 +2,7 @@
 use mathlib.Core.List.{List, _++_}
 use Prim.Native.Nat.{ℕ}
 use lib.ListN.{length, drop}
-use Rattle.fdfa.specs.Refusals.{Fault, sound, fault}
+use Rattle.slices.specs.Refusals.{Fault, sound, fault}
 
 -- The new cells, then what the slice held behind them.
 unfoldable pub written : List ℕ → List ℕ → List ℕ

@@ -7,8 +7,7 @@ use native.Mathlib.Decide.{ℕ-discrete}
 use native.Mathlib.Nat.{suc-mul, add-suc, add-zero}
 use lib.ListN.{length, getD, length-append, List·getD-append}
 use lib.Seq.{getD-append-add, ext-getD}
-use Rattle.packed.specs.Tables.{tab, rows, sum}
-use Rattle.packed.specs.Layout.{table}
+use Rattle.slices.specs.Tables.{tab, rows, sum, table}
 
 pub length-tab : (m : ℕ) (f : ℕ → ℕ) → length (tab m f) ≡ m
 unfolding tab
@@ -126,3 +125,9 @@ rows-within (suc m) f x h = by (ℕ-discrete x m) (rows-within m f x)
         let d : length (rows x f) + length (f x) ≡ length (rows m f) + length (f m) = ap (λ (k : ℕ). length (rows k f) + length (f k)) e in
         omega (arith, length-append (rows m f) (f m))
     by (no e) ih = omega (arith, ih (omega arith), length-append (rows m f) (f m))
+
+pub sum-le : (m : ℕ) (f : ℕ → ℕ) (c : ℕ) → ((q : ℕ) → q < m → f q ≤ c) → sum m f ≤ m * c
+unfolding sum
+sum-le zero f c h = omega arith
+sum-le (suc m) f c h =
+    omega (arith, sum-le m f c (λ q l. h q (omega arith)), h m (omega arith), suc-mul m c)

@@ -16,3 +16,7 @@ rows (suc m) f = rows m f ++ f m
 unfoldable pub sum : ℕ → (ℕ → ℕ) → ℕ
 sum zero f = 0
 sum (suc m) f = sum m f + f m
+
+-- A table of s entries a row, row after row.
+abbrev pub table : ℕ → ℕ → (ℕ → ℕ → ℕ) → List ℕ
+table k s f = rows k (λ q. tab s (f q))

@@ -1,7 +1,7 @@
--- `packed::is_outside` meets its contract. Assumes nothing.
+-- `slices::scanning::is_outside` meets its contract. Assumes nothing.
 use borrow.Author.Tests.{lt-ltb, le-ltb}
-use Rattle.packed.proofs.is_outside.Statement.{statement}
-use Rattle.packed.proofs.is_outside.Tie as tie
+use Rattle.slices.proofs.scanning.is_outside.Statement.{statement}
+use Rattle.slices.proofs.scanning.is_outside.Tie as tie
 
 returns : tie.Need-returns
 returns c = rw (lt-ltb _ _ (c .if1 .taken))

@@ -1,11 +1,12 @@
--- The laws of `least`: it is the smallest number below the bound that passes. Assumes nothing.
-use mathlib.Core.Path.{_≡_, refl}
+-- The laws of `least` and `largest`: the smallest number below the bound that passes; none is larger, and a bound on all is a
+-- bound on it. Assumes nothing.
+use mathlib.Core.Path.{_≡_, refl, ap}
 use mathlib.Core.Bool.{Bool, true, false}
-use Prim.Native.Nat.{ℕ, zero, suc, _≤_, _<_}
+use Prim.Native.Nat.{ℕ, zero, suc, max, _≤_, _<_}
 use native.Mathlib.Omega.{arith}
 use native.Mathlib.Nat.{le-of-suc-le-suc}
-use native.Mathlib.Decide.{decLt}
-use Rattle.fdfa.specs.Normalization.{least}
+use native.Mathlib.Decide.{decLt, ℕ-discrete}
+use Rattle.slices.specs.Extremes.{least, largest}
 
 least-here : (m : ℕ) (p : ℕ → Bool) → p 0 ≡ true → least (suc m) p ≡ 0
 unfolding least
@@ -61,3 +62,17 @@ least-none m p none = by (decLt (least m p) m)
     by : Dec (least m p < m) → least m p ≡ m
     by (yes l) = absurd (none (least m p) l (least-passes m p l))
     by (no l) = omega (arith, least-bound m p)
+
+pub largest-le : (m : ℕ) (f : ℕ → ℕ) (q : ℕ) → q < m → f q ≤ largest m f
+unfolding largest
+largest-le zero f q h = absurd (omega arith)
+largest-le (suc m) f q h = by (largest-le m f q) (ℕ-discrete q m)
+  where
+    by : (q < m → f q ≤ largest m f) → Dec (q ≡ m) → f q ≤ max (largest m f) (f m)
+    by ih (yes e) = omega (arith, ap f e)
+    by ih (no e) = omega (arith, ih (omega arith))
+
+pub largest-most : (m : ℕ) (f : ℕ → ℕ) (c : ℕ) → ((q : ℕ) → q < m → f q ≤ c) → largest m f ≤ c
+unfolding largest
+largest-most zero f c h = omega arith
+largest-most (suc m) f c h = omega (arith, largest-most m f c (λ q l. h q (omega arith)), h m (omega arith))

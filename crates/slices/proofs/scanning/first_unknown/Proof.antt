@@ -1,4 +1,4 @@
--- `packed::first_unknown` meets its contract. Assumes nothing.
+-- `slices::scanning::first_unknown` meets its contract. Assumes nothing.
 use mathlib.Core.Path.{_≡_, sym, subst, _∙_}
 use mathlib.Core.Bool.{true≢false}
 use mathlib.Core.List.{List}
@@ -6,12 +6,12 @@ use Prim.Native.Nat.{ℕ, _+_, _<_}
 use native.Mathlib.Omega.{arith}
 use native.Mathlib.Nat.{zero-add}
 use lib.ListN.{length, getD}
-use Rattle.fdfa.proofs.Least.{least-none}
-use Rattle.packed.specs.Faults.{firstOutside}
-use Rattle.packed.proofs.Scan.{not-outside}
+use Rattle.slices.proofs.Extremes.{least-none}
+use Rattle.slices.specs.Scans.{firstOutside}
+use Rattle.slices.proofs.Scans.{not-outside}
 use borrow.Author.Needs.{needs}
-use Rattle.packed.proofs.first_unknown.Statement.{statement}
-use Rattle.packed.proofs.first_unknown.Tie as tie
+use Rattle.slices.proofs.scanning.first_unknown.Statement.{statement}
+use Rattle.slices.proofs.scanning.first_unknown.Tie as tie
 
 top-requires : tie.Need-top-requires
 top-requires c κs = search needs

@@ -1,16 +1,16 @@
--- `boolean::copy` meets its contract. Assumes nothing.
+-- `slices::copying::copy` meets its contract. Assumes nothing.
 use mathlib.Core.Path.{refl, ap, _∙_}
 use mathlib.Core.List.{List}
 use Prim.Native.Nat.{ℕ, _-_}
 use native.Mathlib.Omega.{arith}
 use denote.Ref.{now}
 use lib.ListN.{length, getD}
-use Rattle.fdfa.specs.Slices.{written}
-use Rattle.packed.proofs.Tabulated.{tab-getD}
-use Rattle.packed.proofs.Filling.{Filling, filling-none, filling-more, filling-all}
+use Rattle.slices.specs.Filling.{written}
+use Rattle.slices.proofs.Tables.{tab-getD}
+use Rattle.slices.proofs.Filling.{Filling, filling-none, filling-more, filling-all}
 use borrow.Author.Needs.{needs}
-use Rattle.boolean.proofs.copy.Statement.{statement}
-use Rattle.boolean.proofs.copy.Tie as tie
+use Rattle.slices.proofs.copying.copy.Statement.{statement}
+use Rattle.slices.proofs.copying.copy.Tie as tie
 
 abbrev Inv-loop : tie.InvT-loop
 Inv-loop from out₀ i₀ out i = Filling (length from) (λ k. getD from k 0) out₀ out i

@@ -1,21 +1,21 @@
--- `packed::first_outside` meets its contract: of the bytes passed, none is outside. Assumes nothing.
+-- `slices::scanning::first_outside` meets its contract: of the bytes passed, none is outside. Assumes nothing.
 use mathlib.Core.Path.{_≡_, ap, sym, _∙_}
 use mathlib.Core.Bool.{true, true≢false}
 use Prim.Native.Nat.{ℕ, _+_, _-_, _≤_, _<_}
 use native.Mathlib.Omega.{arith}
 use borrow.Author.Count.{below-more}
 use lib.ListN.{getD}
-use Rattle.fdfa.proofs.Least.{least-is, least-none}
-use Rattle.packed.specs.Faults.{outside, firstOutside}
+use Rattle.slices.proofs.Extremes.{least-is, least-none}
+use Rattle.slices.specs.Scans.{outside, firstOutside}
 use borrow.Author.Needs.{needs}
-use Rattle.packed.proofs.first_outside.Statement.{statement}
-use Rattle.packed.proofs.first_outside.Tie as tie
+use Rattle.slices.proofs.scanning.first_outside.Statement.{statement}
+use Rattle.slices.proofs.scanning.first_outside.Tie as tie
 
 abbrev Inv-loop : tie.InvT-loop
-Inv-loop sheet low limit at count i₀ i = (i ≤ count) × ((k : ℕ) → k < i → outside low limit (getD sheet (at + k) 0) ≡ true → ⊥)
+Inv-loop bytes low limit at count i₀ i = (i ≤ count) × ((k : ℕ) → k < i → outside low limit (getD bytes (at + k) 0) ≡ true → ⊥)
 
 abbrev μ-loop : tie.MeasureT-loop
-μ-loop sheet low limit at count i₀ i = count - i
+μ-loop bytes low limit at count i₀ i = count - i
 
 loop-holds : tie.Need-loop-holds Inv-loop μ-loop
 loop-holds c = search needs

@@ -1,4 +1,4 @@
--- `packed::top` meets its contract: no byte passed is larger. Assumes nothing.
+-- `slices::scanning::top` meets its contract: no byte passed is larger. Assumes nothing.
 use mathlib.Core.List.{List}
 use mathlib.Core.Logic.{⊎-elim}
 use Prim.Native.Nat.{ℕ, _+_, _-_, _≤_, _<_}
@@ -7,8 +7,8 @@ use borrow.Author.Count.{below-more}
 use denote.Ref.{now}
 use lib.ListN.{length, getD}
 use borrow.Author.Needs.{needs}
-use Rattle.packed.proofs.top.Statement.{statement}
-use Rattle.packed.proofs.top.Tie as tie
+use Rattle.slices.proofs.scanning.top.Statement.{statement}
+use Rattle.slices.proofs.scanning.top.Tie as tie
 
 abbrev Inv-loop : tie.InvT-loop
 Inv-loop word most₀ i₀ most i = (i ≤ length word) × ((k : ℕ) → k < i → getD word k 0 ≤ most)

@@ -1,8 +1,10 @@
 -- Refusals: what a definition of a call says where its input is at fault. Assumes nothing.
 use mathlib.Core.Bool.{Bool, true, false}
 use Prim.Native.Nat.{ℕ}
-use Rattle.fdfa.specs.declared.Part.{Part}
-use Rattle.fdfa.specs.declared.Refusal.{Refusal}
+use Rattle.slices.specs.declared.Part.{Part}
+use Rattle.slices.specs.declared.Refusal.{Refusal}
+use Rattle.slices.specs.declared.Written.{Written}
+use Rattle.slices.specs.declared.Written.the-variants.{Filled, Refused}
 
 pub data Fault : Type 0 where
   sound : Fault
@@ -27,3 +29,8 @@ pub data Result (A : Type 0) : Type 0 where
 abbrev pub unless : {A : Type 0} → Fault → A → Result A
 unless sound a = given a
 unless (fault r) a = refused r
+
+-- The answer of a call that fills the out slice, by cases: the length filled, or the refusal.
+abbrev pub writtenSays : Written → Result ℕ
+writtenSays (Filled n) = given n
+writtenSays (Refused r) = refused r

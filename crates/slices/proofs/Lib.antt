@@ -1,0 +1,6 @@
+pub mod Refusals
+pub mod Filling
+pub mod Tables
+pub mod Extremes
+pub mod Scans
+pub mod Tests

@@ -1,0 +1,71 @@
+// What all calls share, below the model: refusals, numbers of other widths, scans of a slice and the filling of one.
+mod copying; // copying.rt: copies of a slice
+mod scanning; // scanning.rt: the first byte of a slice that is out of a range
+
+pub use copying::copy;
+pub use scanning::first_outside;
+pub use scanning::first_unknown;
+pub use scanning::is_outside;
+ghost use mathlib.Core.Path.{_≡_};
+ghost use Prim.Native.Nat.{_<_};
+
+// What a refusal concerns. A sheet or text that stands alone is `First`.
+pub enum Part {
+    First,
+    Second,
+    Opening,
+    Loop,
+    Out,
+    Work,
+    Cursor,
+}
+
+// Why a call gives no answer: the number of the reason, what it concerns, and the place there.
+pub struct Refusal {
+    pub number: u8,
+    pub part: Part,
+    pub place: usize,
+}
+
+// What a call that fills the out slice answers: the length filled, or the refusal.
+pub enum Written {
+    Filled(usize),
+    Refused(Refusal),
+}
+
+pub fn refuse(number: u8, part: Part, place: usize) -> Refusal
+    ensures { λ r. ⌜ r ≡ record { number = number; part = part; place = place } ⌝ }
+{
+    Refusal {
+        number,
+        part,
+        place,
+    }
+}
+
+// A byte, or 16 bits, as a number; and back.
+pub fn wide(x: u8) -> usize
+    ensures { λ r. ⌜ r ≡ x ⌝ }
+{
+    x as usize
+}
+
+pub fn wide16(x: u16) -> usize
+    ensures { λ r. ⌜ r ≡ x ⌝ }
+{
+    x as usize
+}
+
+pub fn narrow(x: usize) -> u8
+    requires { ⌜ x < 256 ⌝ }
+    ensures { λ r. ⌜ r ≡ x ⌝ }
+{
+    x as u8
+}
+
+pub fn narrow16(x: usize) -> u16
+    requires { ⌜ x < 65536 ⌝ }
+    ensures { λ r. ⌜ r ≡ x ⌝ }
+{
+    x as u16
+}
