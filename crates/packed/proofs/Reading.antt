@@ -1,48 +1,72 @@
 -- The tables of a valid sheet can be walked over every word of its letters, and stay among their states. Assumes nothing.
-use mathlib.Core.Path.{_≡_, refl, sym, subst}
+use mathlib.Core.Path.{_≡_, refl, ap, sym, _∙_}
+use mathlib.Core.Bool.{Bool, cond}
 use mathlib.Core.List.{List}
-use Prim.Native.Nat.{ℕ, _+_, _*_, _≤_, _<_}
+use Prim.Native.Nat.{ℕ, _+_, _*_, _/_, _%_, _≤_, _<_}
 use native.Mathlib.Omega.{arith}
-use lib.ListN.{length, getD, take}
+use lib.Dec.{ltb}
+use lib.ListN.{length, getD, take, replicate, length-replicate}
+use borrow.Author.Tests.{lt-ltb}
+use Rattle.slices.specs.Filling.{written}
+use Rattle.slices.specs.Tables.{tab}
+use Rattle.slices.proofs.Filling.{length-written}
+use Rattle.slices.proofs.Tables.{length-tab, getD-first, getD-tab}
 use Rattle.fdfa.specs.Words.{Over}
 use Rattle.fdfa.specs.Family.{Closed, walk}
 use Rattle.fdfa.proofs.Agreement.{walk-same}
 use Rattle.fdfa.proofs.Words.{walk-closed, over-take, over-letter}
 use Rattle.packed.specs.Layout.{letterCount, stateCount, sizeOf, leadingAt, progressAt, tableStep, decode, Valid}
-use Rattle.packed.specs.Columns.{columnStep, Columns, Walkable}
+use Rattle.packed.specs.Columns.{columnStep, columnCell, columnsOf, Walkable}
 use Rattle.packed.proofs.Bounds.{progress-first, progress-upto, Body, body}
 
--- a table by letter is walked as the table itself
-walks : (b : List ℕ) (at s m : ℕ) {t : List ℕ} → Columns b at s m t → m ≤ 32 → s ≤ 32 → Closed s m (tableStep b at s) → (q : ℕ) → q < m → {w : List ℕ} → Over s w
-    → Walkable t q w × (walk (columnStep t) q w ≡ walk (tableStep b at s) q w)
-walks b at s m {t} columns few-states few-letters closed q h {w} o = (record { inside = inside }, same o)
-  where
-    same : {x : List ℕ} → Over s x → walk (columnStep t) q x ≡ walk (tableStep b at s) q x
-    same p = sym (walk-same closed (λ p a l k. sym (columns .steps p a l k)) q h p)
+-- a table by letter has the entries of the table itself
+module _ (b : List ℕ) (at s m : ℕ) (few-letters : s ≤ 32) where
+  long : length (tab (32 * s) (columnCell b at s m)) ≡ 32 * s
+  long = length-tab (32 * s) (columnCell b at s m)
 
-    inside : (i : ℕ) → i < length w → 32 * getD w i 0 + walk (columnStep t) q (take i w) < length t
-    inside i l =
-        let below : walk (tableStep b at s) q (take i w) < m = walk-closed closed h (over-take i o) in
-        omega (arith, same (over-take i o), below, over-letter o i l, columns .long)
+  pub length-columns : length (columnsOf b at s m) ≡ 1024
+  unfolding columnsOf
+  length-columns = length-written (tab (32 * s) (columnCell b at s m)) (replicate 1024 0) (omega (arith, long, zeros)) ∙ zeros
+    where
+      zeros : length (replicate {A = ℕ} 1024 0) ≡ 1024
+      zeros = length-replicate {A = ℕ} 1024 0
 
-columns-as : {b t : List ℕ} {at s m at′ s′ m′ : ℕ} → Columns b at s m t → at ≡ at′ → s ≡ s′ → m ≡ m′ → Columns b at′ s′ m′ t
-columns-as {b} {t} {at} {s} {m} {at′} {s′} {m′} c d e f =
-    subst (λ (k : ℕ). Columns b k s′ m′ t) d (subst (λ (k : ℕ). Columns b at k m′ t) e (subst (λ (k : ℕ). Columns b at s k t) f c))
+  column-step : m ≤ 32 → (q a : ℕ) → q < m → a < s → columnStep (columnsOf b at s m) q a ≡ tableStep b at s q a
+  unfolding columnsOf written
+  column-step few-states q a h l =
+      getD-first (tab (32 * s) (columnCell b at s m)) _ (32 * a + q) (omega (arith, long))
+      ∙ (getD-tab (32 * s) (columnCell b at s m) (32 * a + q) (omega arith) ∙ by (32 * a + q) (omega arith) (omega arith))
+    where
+      by : (i : ℕ) → i % 32 ≡ q → i / 32 ≡ a → columnCell b at s m i ≡ tableStep b at s q a
+      by i e d = (λ k. cond (ltb (e k) m) (tableStep b at s (e k) (d k)) 0) ∙ ap (λ (t : Bool). cond t (tableStep b at s q a) 0) (lt-ltb q m h)
+
+  -- so it is walked as the table itself
+  walks : {t : List ℕ} → t ≡ columnsOf b at s m → m ≤ 32 → Closed s m (tableStep b at s) → (q : ℕ) → q < m → {w : List ℕ} → Over s w
+      → Walkable t q w × (walk (columnStep t) q w ≡ walk (tableStep b at s) q w)
+  walks {t} is few-states closed q h {w} o = (record { inside = inside }, same o)
+    where
+      same : {x : List ℕ} → Over s x → walk (columnStep t) q x ≡ walk (tableStep b at s) q x
+      same p = sym (walk-same closed (λ p a l k. sym (ap (λ (t : List ℕ). columnStep t p a) is ∙ column-step few-states p a l k)) q h p)
+
+      inside : (i : ℕ) → i < length w → 32 * getD w i 0 + walk (columnStep t) q (take i w) < length t
+      inside i l =
+          let below : walk (tableStep b at s) q (take i w) < m = walk-closed closed h (over-take i o) in
+          omega (arith, same (over-take i o), below, over-letter o i l, ap length is ∙ length-columns)
 
 module _ (b : List ℕ) (v : Valid b) where
   pub lead-fits : leadingAt b + stateCount b * letterCount b ≤ length b
   lead-fits = omega (arith, progress-first b, progress-upto b 0 (stateCount b) (omega arith), v .exact)
 
-  pub lead-walks : {at s m q : ℕ} {t : List ℕ} → Columns b at s m t → at ≡ leadingAt b → s ≡ letterCount b → m ≡ stateCount b → q < stateCount b → {w : List ℕ} → Over (letterCount b) w
+  pub lead-walks : {at s m q : ℕ} {t : List ℕ} → t ≡ columnsOf b at s m → at ≡ leadingAt b → s ≡ letterCount b → m ≡ stateCount b → q < stateCount b → {w : List ℕ} → Over (letterCount b) w
       → Walkable t q w × (walk (columnStep t) q w ≡ walk (tableStep b (leadingAt b) (letterCount b)) q w)
-  lead-walks {q = q} {t = t} columns ea es em h o =
-      walks b (leadingAt b) (letterCount b) (stateCount b) (columns-as columns ea es em) (v .header .few-states) (v .header .few-letters) (v .leads) q h o
+  lead-walks {q = q} is ea es em h o =
+      walks b (leadingAt b) (letterCount b) (stateCount b) (v .header .few-letters) (is ∙ (λ i. columnsOf b (ea i) (es i) (em i))) (v .header .few-states) (v .leads) q h o
 
   -- the part of q: where it lies
   pub part-of : (q : ℕ) → q < stateCount b → Body b q (progressAt b q) (sizeOf b q) (letterCount b)
   part-of q h = body b (v .header) (v .exact) h refl refl refl
 
-  pub progress-walks : {at s m q p : ℕ} {t : List ℕ} → Columns b at s m t → at ≡ progressAt b q → s ≡ letterCount b → m ≡ sizeOf b q → q < stateCount b → p < sizeOf b q → {w : List ℕ} → Over (letterCount b) w
+  pub progress-walks : {at s m q p : ℕ} {t : List ℕ} → t ≡ columnsOf b at s m → at ≡ progressAt b q → s ≡ letterCount b → m ≡ sizeOf b q → q < stateCount b → p < sizeOf b q → {w : List ℕ} → Over (letterCount b) w
       → Walkable t p w × (walk (columnStep t) p w ≡ walk (decode b .progress q) p w)
-  progress-walks {q = q} {p = p} columns ea es em h l o =
-      walks b (progressAt b q) (letterCount b) (sizeOf b q) (columns-as columns ea es em) (v .header .few-size q h) (v .header .few-letters) (v .progresses q h) p l o
+  progress-walks {q = q} {p = p} is ea es em h l o =
+      walks b (progressAt b q) (letterCount b) (sizeOf b q) (v .header .few-letters) (is ∙ (λ i. columnsOf b (ea i) (es i) (em i))) (v .header .few-size q h) (v .progresses q h) p l o

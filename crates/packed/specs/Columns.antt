@@ -1,24 +1,24 @@
--- A table by letter, as a walk along a word reads it. Assumes nothing.
-use mathlib.Core.Path.{_≡_}
+-- A table by letter, as a walk along a word reads it: cell 32 a + q has the next state of q by a. Assumes nothing.
+use mathlib.Core.Bool.{cond}
 use mathlib.Core.List.{List}
-use Prim.Native.Nat.{ℕ, _+_, _*_, _<_}
-use lib.ListN.{length, getD, take}
+use Prim.Native.Nat.{ℕ, _+_, _*_, _/_, _%_, _<_}
+use lib.Dec.{ltb}
+use lib.ListN.{length, getD, take, replicate}
+use Rattle.slices.specs.Filling.{written}
+use Rattle.slices.specs.Tables.{tab}
 use Rattle.fdfa.specs.Family.{walk}
 use Rattle.packed.specs.Layout.{tableStep}
 
 abbrev pub columnStep : List ℕ → ℕ → ℕ → ℕ
 columnStep t q a = getD t (32 * a + q) 0
 
--- The s next states of q, which begin at a place, are entered, and no other state's.
-pub record Entered (b : List ℕ) (from s q : ℕ) (t t′ : List ℕ) : Type 0 where
-  pub long : length t′ ≡ length t
-  pub own : (a : ℕ) → a < s → columnStep t′ q a ≡ getD b (from + a) 0
-  pub others : (p a : ℕ) → p < 32 → (p ≡ q → ⊥) → columnStep t′ p a ≡ columnStep t p a
+-- Cell i, for an automaton of m states and s letters whose table in the sheet begins at a place; 0 where there is no such state.
+abbrev pub columnCell : List ℕ → ℕ → ℕ → ℕ → ℕ → ℕ
+columnCell b at s m i = cond (ltb (i % 32) m) (tableStep b at s (i % 32) (i / 32)) 0
 
--- The table by letter of the automaton of m states and s letters whose table in the sheet begins at a place.
-pub record Columns (b : List ℕ) (at s m : ℕ) (t : List ℕ) : Type 0 where
-  pub long : length t ≡ 1024
-  pub steps : (q a : ℕ) → q < m → a < s → columnStep t q a ≡ tableStep b at s q a
+-- The whole table: 32 cells a letter, then 0.
+unfoldable pub columnsOf : List ℕ → ℕ → ℕ → ℕ → List ℕ
+columnsOf b at s m = written (tab (32 * s) (columnCell b at s m)) (replicate 1024 0)
 
 -- Each cell that a walk over the word reads lies within the table.
 pub record Walkable (t : List ℕ) (q : ℕ) (w : List ℕ) : Type 0 where

@@ -5,32 +5,30 @@ ghost use mathlib.Core.Path.{_≡_};
 ghost use Prim.Native.Nat.{_+_, _*_, _≤_, _<_};
 ghost use lib.ListN.{length, getD};
 ghost use Rattle.fdfa.specs.Family.{walk};
-ghost use Rattle.packed.specs.Columns.{columnStep, Entered, Columns, Walkable};
+ghost use Rattle.packed.specs.Columns.{columnStep, columnCell, columnsOf, Walkable};
 
-// Enters the next states of one state, which begin at `from`.
-fn enter(sheet: &[u8], from: usize, letters: usize, state: usize, table: &mut [u8; 1024])
-    requires { ⌜ (from + letters ≤ length (now sheet)) × (letters ≤ 32) × (state < 32) × (length (now table) ≡ 1024) ⌝ }
-    ensures { λ _. ⌜ Entered (now (sheet .entry)) from letters state (now (table .entry)) (now (table .exit)) ⌝ }
+// What cell i has: the next state of i % 32 by i / 32, or 0 where there is no such state.
+fn cell(sheet: &[u8], at: usize, letters: usize, states: usize, i: usize) -> u8
+    requires { ⌜ (at + states * letters ≤ length (now sheet)) × (i < 32 * letters) ⌝ }
+    ensures { λ r. ⌜ r ≡ columnCell (now (sheet .entry)) at letters states i ⌝ }
 {
-    let mut a = 0;
-    while a < letters {
-        table[32 * a + state] = sheet[from + a];
-        a += 1;
+    let q = i % 32;
+    if q < states {
+        return sheet[at + (q * letters + i / 32)];
     }
+    0
 }
 
 // The table by letter of an automaton whose table in the sheet begins at `at`.
 pub fn columns(sheet: &[u8], at: usize, letters: usize, states: usize) -> [u8; 1024]
-    requires { ⌜ (at + states * letters ≤ length (now sheet)) × (letters ≤ 32) × (states ≤ 32) ⌝ }
-    ensures { λ r. ⌜ Columns (now (sheet .entry)) at letters states r ⌝ }
+    requires { ⌜ (at + states * letters ≤ length (now sheet)) × (letters ≤ 32) ⌝ }
+    ensures { λ r. ⌜ r ≡ columnsOf (now (sheet .entry)) at letters states ⌝ }
 {
     let mut table = [0u8; 1024];
-    let mut from = at;
-    let mut q = 0;
-    while q < states {
-        enter(sheet, from, letters, q, &mut table);
-        from += letters;
-        q += 1;
+    let mut i = 0;
+    while i < 32 * letters {
+        table[i] = cell(sheet, at, letters, states, i);
+        i += 1;
     }
     table
 }

@@ -4,7 +4,7 @@ use mathlib.Core.List.{List}
 use Prim.Native.Nat.{ℕ, _+_, _*_, _-_, _≤_, _<_}
 use native.Mathlib.Omega.{arith}
 use denote.Ref.{now}
-use lib.ListN.{getD, set}
+use lib.ListN.{length, getD, set}
 use Rattle.fdfa.specs.Words.{Over}
 use Rattle.fdfa.specs.Family.{walk}
 use Rattle.fdfa.specs.Normalization.{returnFrom, returning}
@@ -12,7 +12,7 @@ use Rattle.fdfa.proofs.Words.{over-turns, walk-closed, walk-turn}
 use Rattle.fdfa.proofs.Normal.{turns-follow}
 use Rattle.packed.specs.Layout.{letterCount, stateCount, leadingAt, tableStep}
 use Rattle.packed.specs.Columns.{columnStep, Walkable}
-use Rattle.packed.proofs.Reading.{lead-fits, lead-walks}
+use Rattle.packed.proofs.Reading.{length-columns, lead-fits, lead-walks}
 use Rattle.membership.specs.Verdict.{turning}
 use Rattle.membership.proofs.Seen.{Seen, seen-none, room, seen-more, seen-returns}
 use borrow.Author.Needs.{needs}
@@ -55,7 +55,12 @@ found c =
     let i = c .before in
     seen-returns (seq i) _ (within i) (few i) _ _ (i .loop .inv .0) (turns-follow _ _ _) (λ e. c .loop-test .left (noted i ∙ e))
 
--- how the table is walked
+-- the table by letter: its length, and how it is walked
+long : (c : tie.After-columns Inv-loop μ-loop) → length (c .columns .result) ≡ 1024
+long c =
+    let p = c .before .before .before .before .pre in
+    ap length (c .columns .ensures) ∙ length-columns _ _ _ _ (omega (arith, p .1 .1, p .0 .0 .header .few-letters))
+
 walks : (c : tie.After-columns Inv-loop μ-loop) (q : ℕ) {w : List ℕ} → let s = c .before .before .before .before in let b = now (s .args .sheet) in q < stateCount b → Over (letterCount b) w
     → Walkable (c .columns .result) q w × (walk (columnStep (c .columns .result)) q w ≡ walk (tableStep b (leadingAt b) (letterCount b)) q w)
 walks c q h o = let p = c .before .before .before .before .pre in lead-walks _ (p .0 .0) (c .columns .ensures) (p .1 .0) (p .1 .1) (p .1 .2) h o
@@ -72,10 +77,10 @@ columns-requires c κs =
     let p = s .pre in
     let e : s .args .at + s .args .states * s .args .letters ≡ leadingAt (now (s .args .sheet)) + stateCount (now (s .args .sheet)) * letterCount (now (s .args .sheet)) =
     λ i. p .1 .0 i + p .1 .2 i * p .1 .1 i in
-    (omega (arith, e, lead-fits _ (p .0 .0)), omega (arith, p .1 .1, p .0 .0 .header .few-letters), omega (arith, p .1 .2, p .0 .0 .header .few-states))
+    (omega (arith, e, lead-fits _ (p .0 .0)), omega (arith, p .1 .1, p .0 .0 .header .few-letters))
 
 slice-aggregate-walk : tie.Need-slice-aggregate-walk Inv-loop μ-loop
-slice-aggregate-walk c = sym (c .before .columns .ensures .long)
+slice-aggregate-walk c = sym (long (c .before))
 
 walk-requires : tie.Need-walk-requires Inv-loop μ-loop
 walk-requires c κs =
@@ -102,7 +107,7 @@ array-write-seen : tie.Need-array-write-seen Inv-loop μ-loop
 array-write-seen c = state-few (c .before)
 
 slice-aggregate-walk-2 : tie.Need-slice-aggregate-walk-2 Inv-loop μ-loop
-slice-aggregate-walk-2 c = sym (c .before .before .before .before .before .columns .ensures .long)
+slice-aggregate-walk-2 c = sym (long (c .before .before .before .before .before))
 
 walk-requires-2 : tie.Need-walk-requires-2 Inv-loop μ-loop
 walk-requires-2 c κs = turn (c .before) .0

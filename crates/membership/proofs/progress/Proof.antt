@@ -5,14 +5,14 @@ use Prim.Native.Nat.{ℕ, _+_, _*_, _-_, _≤_, _<_}
 use native.Mathlib.Omega.{arith}
 use denote.Ref.{now}
 use lib.Dec.{eqb}
-use lib.ListN.{getD}
+use lib.ListN.{length, getD}
 use Rattle.fdfa.specs.Words.{turns}
 use Rattle.fdfa.specs.Family.{walk}
 use Rattle.fdfa.proofs.Words.{over-turns, walk-closed, walk-turn}
 use Rattle.packed.specs.Layout.{letterCount, sizeOf, progressAt, marksAt, decode}
 use Rattle.packed.proofs.Bounds.{Body}
 use Rattle.packed.specs.Columns.{columnStep, Walkable}
-use Rattle.packed.proofs.Reading.{part-of, progress-walks}
+use Rattle.packed.proofs.Reading.{length-columns, part-of, progress-walks}
 use borrow.Author.Needs.{needs}
 use Rattle.membership.proofs.progress.Statement.{statement}
 use Rattle.membership.proofs.progress.Tie as tie
@@ -81,13 +81,16 @@ size-requires c κs = let s = c .before .before .before in omega (arith, s .pre 
 columns-requires : tie.Need-columns-requires Inv-loop μ-loop
 columns-requires c κs =
     let p = start c .pre in
-    (omega (arith, marks c, body c .within), omega (arith, p .1, p .0 .0 .header .few-letters), omega (arith, c .size .ensures, p .0 .0 .header .few-size (start c .args .q) (p .0 .2)))
+    (omega (arith, marks c, body c .within), omega (arith, p .1, p .0 .0 .header .few-letters))
 
 loop-holds : tie.Need-loop-holds Inv-loop μ-loop
 loop-holds c = (search needs, refl)
 
 slice-aggregate-walk : tie.Need-slice-aggregate-walk Inv-loop μ-loop
-slice-aggregate-walk c = sym (c .before .before .before .columns .ensures .long)
+slice-aggregate-walk c =
+    let t = c .before .before .before in
+    let p = start (t .before) .pre in
+    sym (ap length (t .columns .ensures) ∙ length-columns _ _ _ _ (omega (arith, p .1, p .0 .0 .header .few-letters)))
 
 walk-requires : tie.Need-walk-requires Inv-loop μ-loop
 walk-requires c κs = turn (c .before .before) .0

@@ -1,83 +1,43 @@
--- `packed::walking::columns` meets its contract: state after state. Assumes nothing.
-use mathlib.Core.Path.{_≡_, ap, subst, _∙_}
-use mathlib.Core.List.{List}
-use Prim.Native.Nat.{ℕ, _+_, _*_, _-_, _≤_, _<_}
+-- `packed::walking::columns` meets its contract: cell after cell. Assumes nothing.
+use Prim.Native.Nat.{ℕ, _*_, _-_}
 use native.Mathlib.Omega.{arith}
-use native.Mathlib.Nat.{add-mul, one-mul, mul-le-mul-right, zero-mul}
-use borrow.Author.Count.{below-more}
-use denote.Ref.{now}
-use lib.ListN.{length, getD, length-replicate}
-use Rattle.packed.specs.Layout.{tableStep}
-use Rattle.packed.specs.Columns.{columnStep, Entered, Columns}
+use lib.ListN.{length-replicate}
+use Rattle.slices.proofs.Filling.{Filling, filling-none, filling-more, filling-all}
+use Rattle.packed.specs.Columns.{columnCell, columnsOf}
 use borrow.Author.Needs.{needs}
 use Rattle.packed.proofs.walking.columns.Statement.{statement}
 use Rattle.packed.proofs.walking.columns.Tie as tie
 
 abbrev Inv-loop : tie.InvT-loop
-Inv-loop sheet at letters states table₀ from₀ q₀ table from q = (q ≤ states) × (from ≡ at + q * letters) × Columns sheet at letters q table
+Inv-loop sheet at letters states table₀ i₀ table i = Filling (32 * letters) (columnCell sheet at letters states) table₀ table i
 
 abbrev μ-loop : tie.MeasureT-loop
-μ-loop sheet at letters states table₀ from₀ q₀ table from q = states - q
-
-row-after : (q s : ℕ) → (q + 1) * s ≡ q * s + s
-row-after q s = omega (arith, add-mul q 1 s, one-mul s)
-
-row-fits : (at q s m n : ℕ) → q < m → at + m * s ≤ n → at + q * s + s ≤ n
-row-fits at q s m n h l = let k : q + 1 ≤ m = omega arith in omega (arith, mul-le-mul-right s k, row-after q s)
-
--- one state more
-more : (b t t′ : List ℕ) (at from s q : ℕ) → from ≡ at + q * s → q < 32 → Columns b at s q t → Entered b from s q t t′ → Columns b at s (q + 1) t′
-more b t t′ at from s q e h c n = record {
-  long = n .long ∙ c .long;
-  steps = λ p a l k. below-more (λ p. columnStep t′ p a ≡ tableStep b at s p a) q (λ p m. n .others p a (omega arith) (λ d. omega arith) ∙ c .steps p a m k)
-      (n .own a k ∙ ap (λ (i : ℕ). getD b i 0) (place a)) p l;
-}
-  where
-    place : (a : ℕ) → from + a ≡ at + (q * s + a)
-    place a = omega (arith, e)
-
-all : (b t : List ℕ) (at s q m : ℕ) → q ≤ m → m ≤ q → Columns b at s q t → Columns b at s m t
-all b t at s q m h l c = let d : q ≡ m = omega arith in subst (λ (k : ℕ). Columns b at s k t) d c
-
-abbrev start : tie.At-loop Inv-loop μ-loop → tie.Start Inv-loop μ-loop
-start c = c .before .before
-
-fits : (c : tie.In-loop Inv-loop μ-loop) → let s = start (c .before) in c .before .loop .from + s .args .letters ≤ length (now (s .args .sheet))
-fits c =
-    let i = c .before in
-    omega (arith, row-fits _ (i .loop .q) _ _ _ (c .loop-test .taken) (start i .pre .0), i .loop .inv .1)
+μ-loop sheet at letters states table₀ i₀ table i = 32 * letters - i
 
 loop-holds : tie.Need-loop-holds Inv-loop μ-loop
-loop-holds c = (search needs, omega (arith, zero-mul (c .before .args .letters)), record { long = length-replicate {A = ℕ} 1024 0; steps = λ q a h l. absurd (omega arith) })
+loop-holds c = filling-none _ _ _ (simp length-replicate (omega (arith, c .before .pre .1)))
 
-enter-requires : tie.Need-enter-requires Inv-loop μ-loop
-enter-requires c κs =
-    let i = c .before .before in
-    let p = start i .pre in
-    (fits (c .before), p .1, omega (arith, c .before .loop-test .taken, p .2), i .loop .inv .2 .long)
+mul-loop : tie.Need-mul-loop Inv-loop μ-loop
+mul-loop c = search needs
 
-add-from : tie.Need-add-from Inv-loop μ-loop
-add-from c = omega (arith, fits (c .before .before), start (c .before .before .before) .good)
+cell-requires : tie.Need-cell-requires Inv-loop μ-loop
+cell-requires c κs = search needs
 
-add-q : tie.Need-add-q Inv-loop μ-loop
-add-q c = search needs
+array-write-table : tie.Need-array-write-table Inv-loop μ-loop
+array-write-table c = search needs
+
+add-i : tie.Need-add-i Inv-loop μ-loop
+add-i c = search needs
 
 loop-less : tie.Need-loop-less Inv-loop μ-loop
 loop-less c = search needs
 
 loop-again : tie.Need-loop-again Inv-loop μ-loop
-loop-again c =
-    let i = c .before .before .before in
-    let s = start i in (
-      search needs,
-      omega (arith, i .loop .inv .1, row-after (i .loop .q) (s .args .letters)),
-      more _ _ _ _ _ _ (i .loop .q) (i .loop .inv .1) (omega (arith, c .before .before .loop-test .taken, s .pre .2)) (i .loop .inv .2) (c .enter .ensures),
-    )
+loop-again c = filling-more _ (c .before .before .loop .inv) (c .before .loop-test .taken) (c .cell .ensures)
 
 returns : tie.Need-returns Inv-loop μ-loop
-returns c =
-    let i = c .before in
-    all _ _ _ _ (i .loop .q) (start i .args .states) (i .loop .inv .0) (c .loop-test .left) (i .loop .inv .2)
+unfolding columnsOf
+returns c = filling-all (c .before .loop .inv) (c .loop-test .left)
 
 pub columns-spec : {M : Type 1} → statement M
 columns-spec =
@@ -86,9 +46,10 @@ columns-spec =
     Inv-loop
     μ-loop
     loop-holds
-    enter-requires
-    add-from
-    add-q
+    mul-loop
+    cell-requires
+    array-write-table
+    add-i
     loop-less
     loop-again
     returns)
