@@ -1,5 +1,5 @@
 -- Where the tables of a sheet lie: each part after the one before it, none past 34,850. Assumes nothing.
-use mathlib.Core.Path.{_≡_, ap, _∙_}
+use mathlib.Core.Path.{_≡_, ap, sym, _∙_}
 use mathlib.Core.List.{List}
 use Prim.Native.Nat.{ℕ, zero, suc, _+_, _*_, _-_, _≤_, _<_}
 use native.Mathlib.Omega.{arith}
@@ -30,6 +30,14 @@ pub progress-first : (b : List ℕ) → progressAt b 0 ≡ leadingAt b + stateCo
 unfolding progressAt sum
 progress-first b = omega arith
 
+-- the counts and the leading table
+module _ (b : List ℕ) {n s : ℕ} (count : n ≡ stateCount b) (letters : s ≡ letterCount b) where
+  pub front-few : Header b → (n ≤ 32) × (n * s ≤ 1024)
+  front-few h = (omega (arith, h .few-states), few-both (omega (arith, h .few-states)) (omega (arith, h .few-letters)))
+
+  pub front-end : 2 + n + n * s ≡ progressAt b 0
+  front-end = (λ i. 2 + count i + count i * letters i) ∙ sym (progress-first b)
+
 module _ (b : List ℕ) (header : Header b) where
   pub progress-few : (q : ℕ) → q ≤ stateCount b → progressAt b q ≤ 1058 + q * 1056
   unfolding progressAt
@@ -56,6 +64,10 @@ pub progress-upto : (b : List ℕ) (q r : ℕ) → q ≤ r → progressAt b q �
 progress-upto b q r h =
     let e : progressAt b (q + (r - q)) ≡ progressAt b r = ap (progressAt b) (omega arith) in
     omega (arith, rises b q (r - q))
+
+pub front-within : (b : List ℕ) → Header b → length b ≡ sheetLength b → {n s : ℕ} → n ≡ stateCount b → s ≡ letterCount b → (2 + n + n * s ≤ length b) × (length b ≤ 34850)
+front-within b h exact count letters =
+    (omega (arith, front-end b count letters, progress-upto b 0 (stateCount b) (omega arith)), omega (arith, sheet-few b h))
 
 -- The part of leading state q, which begins at `at`: k × s next states, then k marks, all within the bytes.
 pub record Body (b : List ℕ) (q at k s : ℕ) : Type 0 where

@@ -1,5 +1,5 @@
 pub mod Bounds
-pub mod Scan
+mod Stages
 pub mod Soundness
 pub mod Reading
 pub mod Packing

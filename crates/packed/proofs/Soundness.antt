@@ -13,13 +13,12 @@ use borrow.Author.Tests.{le-ltb, ltb-false, eq-eqb, eqb-true, not-false}
 use Rattle.slices.specs.declared.Part.{Part}
 use Rattle.slices.specs.declared.Part.the-variants.{First, Second}
 use Rattle.fdfa.specs.Family.{Closed}
-use Rattle.slices.specs.Refusals.{Fault, sound, _then_, when, given}
+use Rattle.slices.specs.Refusals.{Fault, sound, _then_, when}
 use Rattle.slices.proofs.Extremes.{least-none}
-use Rattle.slices.proofs.Refusals.{when-passes, passed, then-left, then-right, when-sound, gives, was-given}
-use Rattle.packed.specs.declared.Sizes.{Sizes}
+use Rattle.slices.proofs.Refusals.{when-passes, passed, then-left, then-right, when-sound}
 use Rattle.packed.specs.Layout.{letterCount, stateCount, sizeOf, leadingAt, progressAt, marksAt, sheetLength, tableStep, decode, Packable, Header, Valid}
 use Rattle.slices.specs.Scans.{outside, firstOutside, scan}
-use Rattle.packed.specs.Faults.{progressFault, sheetFault, secondFault, pairFault, sizesOf, checked}
+use Rattle.packed.specs.Faults.{progressFault, headerFault, tablesFault, sheetFault, secondFault, pairFault}
 use Rattle.slices.proofs.Scans.{inside, not-outside, all-inside, scan-passes}
 
 module _ (number : ℕ) (part : Part) (low limit : ℕ) (b : List ℕ) (at count : ℕ) where
@@ -81,66 +80,37 @@ good-progress part b (suc c) q good =
     g : Good b q
     g = good q (omega arith) (omega arith)
 
+-- the counts are refused for nothing exactly if they are good
 module _ (part : Part) (b : List ℕ) where
-  t1 : Fault
-  t1 = when (ltb (length b) 2) 1 part (length b)
-
-  t2 : Fault
-  t2 = when (outside 1 33 (letterCount b)) 2 part 0
-
-  t3 : Fault
-  t3 = when (outside 1 33 (stateCount b)) 3 part 1
-
-  t4 : Fault
-  t4 = when (ltb (length b) (leadingAt b)) 1 part (length b)
-
-  t5 : Fault
-  t5 = scan 4 part 1 33 b 2 (stateCount b)
-
-  t6 : Fault
-  t6 = when (not (eqb (length b) (sheetLength b))) 1 part (length b)
-
-  t7 : Fault
-  t7 = scan 5 part 0 (stateCount b) b (leadingAt b) (stateCount b * letterCount b)
-
-  t8 : Fault
-  t8 = progressFault part b 0 (stateCount b)
-
-  pub sound-valid : sheetFault part b ≡ sound → Valid b
-  unfolding sheetFault t1 t2 t3 t4 t5 t6 t7 t8
-  sound-valid e = record {
-    header = record {
-      long = ltb-false (length b) (leadingAt b) (when-sound _ 1 part _ (then-left t4 _ e4));
-      some-letters = l .0;
-      few-letters = omega (arith, l .1);
-      some-states = n .0;
-      few-states = omega (arith, n .1);
-      some-size = λ q h. k q h .0;
-      few-size = λ q h. omega (arith, k q h .1);
-    };
-    exact = eqb-true (length b) (sheetLength b) (not-false _ (when-sound _ 1 part _ (then-left t6 _ e6)));
-    leads = λ q a h i. scan-sound 5 part 0 (stateCount b) b (leadingAt b) _ (then-left t7 t8 e7) (q * letterCount b + a) (digits-lt h i) .1;
-    progresses = λ q h p a i j. g q h .next (p * letterCount b + a) (digits-lt i j);
-    marks = λ q p h i. g q h .marks p i;
+  pub sound-header : headerFault part b ≡ sound → Header b
+  unfolding headerFault
+  sound-header e = record {
+    long = ltb-false (length b) (leadingAt b) (when-sound _ 1 part _ (then-left t4 _ e4));
+    some-letters = l .0;
+    few-letters = omega (arith, l .1);
+    some-states = n .0;
+    few-states = omega (arith, n .1);
+    some-size = λ q h. k q h .0;
+    few-size = λ q h. omega (arith, k q h .1);
   }
     where
-      e2 : t2 then (t3 then (t4 then (t5 then (t6 then (t7 then t8))))) ≡ sound
-      e2 = then-right t1 _ e
+      t2 : Fault
+      t2 = when (outside 1 33 (letterCount b)) 2 part 0
 
-      e3 : t3 then (t4 then (t5 then (t6 then (t7 then t8)))) ≡ sound
+      t3 : Fault
+      t3 = when (outside 1 33 (stateCount b)) 3 part 1
+
+      t4 : Fault
+      t4 = when (ltb (length b) (leadingAt b)) 1 part (length b)
+
+      e2 : t2 then (t3 then (t4 then scan 4 part 1 33 b 2 (stateCount b))) ≡ sound
+      e2 = then-right (when (ltb (length b) 2) 1 part (length b)) _ e
+
+      e3 : t3 then (t4 then scan 4 part 1 33 b 2 (stateCount b)) ≡ sound
       e3 = then-right t2 _ e2
 
-      e4 : t4 then (t5 then (t6 then (t7 then t8))) ≡ sound
+      e4 : t4 then scan 4 part 1 33 b 2 (stateCount b) ≡ sound
       e4 = then-right t3 _ e3
-
-      e5 : t5 then (t6 then (t7 then t8)) ≡ sound
-      e5 = then-right t4 _ e4
-
-      e6 : t6 then (t7 then t8) ≡ sound
-      e6 = then-right t5 _ e5
-
-      e7 : t7 then t8 ≡ sound
-      e7 = then-right t6 _ e6
 
       l : (1 ≤ letterCount b) × (letterCount b < 33)
       l = inside 1 33 (letterCount b) (when-sound _ 2 part 0 (then-left t2 _ e2))
@@ -149,41 +119,63 @@ module _ (part : Part) (b : List ℕ) where
       n = inside 1 33 (stateCount b) (when-sound _ 3 part 1 (then-left t3 _ e3))
 
       k : (q : ℕ) → q < stateCount b → (1 ≤ sizeOf b q) × (sizeOf b q < 33)
-      k = scan-sound 4 part 1 33 b 2 (stateCount b) (then-left t5 _ e5)
+      k = scan-sound 4 part 1 33 b 2 (stateCount b) (then-right t4 _ e4)
 
-      g : (q : ℕ) → q < stateCount b → Good b q
-      g q h = progress-good part b (stateCount b) 0 (then-right t7 t8 e7) q (omega arith) (omega arith)
-
-  pub valid-sound : Valid b → sheetFault part b ≡ sound
-  unfolding sheetFault
-  valid-sound v =
+  header-sound : Header b → headerFault part b ≡ sound
+  unfolding headerFault
+  header-sound h =
       passed _ (when-passes 1 part _ (le-ltb (length b) 2 (omega (arith, h .long))))
       ∙ (passed _ (when-passes 2 part 0 (not-outside 1 33 (letterCount b) (h .some-letters) (omega (arith, h .few-letters))))
       ∙ (passed _ (when-passes 3 part 1 (not-outside 1 33 (stateCount b) (h .some-states) (omega (arith, h .few-states))))
       ∙ (passed _ (when-passes 1 part _ (le-ltb (length b) (leadingAt b) (h .long)))
-      ∙ (passed _ (sound-scan 4 part 1 33 b 2 (stateCount b) (λ q l. (h .some-size q l, omega (arith, h .few-size q l))))
+      ∙ sound-scan 4 part 1 33 b 2 (stateCount b) (λ q l. (h .some-size q l, omega (arith, h .few-size q l))))))
+
+-- and so is the whole sheet
+module _ (part : Part) (b : List ℕ) where
+  pub sound-valid : sheetFault part b ≡ sound → Valid b
+  unfolding sheetFault tablesFault
+  sound-valid e = record {
+    header = sound-header part b (then-left (headerFault part b) (tablesFault part b) e);
+    exact = eqb-true (length b) (sheetLength b) (not-false _ (when-sound _ 1 part _ (then-left whole _ tables)));
+    leads = λ q a h i. scan-sound 5 part 0 (stateCount b) b (leadingAt b) _ (then-left leading progress rest) (q * letterCount b + a) (digits-lt h i) .1;
+    progresses = λ q h p a i j. g q h .next (p * letterCount b + a) (digits-lt i j);
+    marks = λ q p h i. g q h .marks p i;
+  }
+    where
+      whole : Fault
+      whole = when (not (eqb (length b) (sheetLength b))) 1 part (length b)
+
+      leading : Fault
+      leading = scan 5 part 0 (stateCount b) b (leadingAt b) (stateCount b * letterCount b)
+
+      progress : Fault
+      progress = progressFault part b 0 (stateCount b)
+
+      tables : whole then (leading then progress) ≡ sound
+      tables = then-right (headerFault part b) (tablesFault part b) e
+
+      rest : leading then progress ≡ sound
+      rest = then-right whole _ tables
+
+      g : (q : ℕ) → q < stateCount b → Good b q
+      g q h = progress-good part b (stateCount b) 0 (then-right leading progress rest) q (omega arith) (omega arith)
+
+  pub valid-sound : Valid b → sheetFault part b ≡ sound
+  unfolding sheetFault tablesFault
+  valid-sound v =
+      passed _ (header-sound part b (v .header))
       ∙ (passed _ (when-passes 1 part _ (ap not (eq-eqb (length b) (sheetLength b) (v .exact))))
       ∙ (passed _ (sound-scan 5 part 0 (stateCount b) b (leadingAt b) _ (λ k l. (omega arith, entry (stateCount b) (leadingAt b) (v .leads) k l)))
-      ∙ good-progress part b (stateCount b) 0 (λ r i l. good r (omega arith))))))))
+      ∙ good-progress part b (stateCount b) 0 (λ r i l. good r (omega arith))))
     where
-      h : Header b
-      h = v .header
-
       -- an entry of a table, by its place
       entry : (k at : ℕ) → Closed (letterCount b) k (tableStep b at (letterCount b)) → (i : ℕ) → i < k * letterCount b → getD b (at + i) 0 < k
       entry k at closed i l =
           subst (λ (x : ℕ). getD b (at + x) 0 < k) (div-add-mod' i (letterCount b))
-          (closed (i / letterCount b) (i % letterCount b) (div-lt-iff-lt-mul (h .some-letters) .1 l) (mod-lt i (h .some-letters)))
+          (closed (i / letterCount b) (i % letterCount b) (div-lt-iff-lt-mul (v .header .some-letters) .1 l) (mod-lt i (v .header .some-letters)))
 
       good : (q : ℕ) → q < stateCount b → Good b q
       good q l = record { next = entry (sizeOf b q) (progressAt b q) (v .progresses q l); marks = λ p i. v .marks q p l i }
-
-  -- the check says valid exactly of valid sheets
-  pub checked-valid : {z : Sizes} → given z ≡ checked part b → Valid b
-  checked-valid e = sound-valid (was-given (sheetFault part b) (sizesOf b) e .0)
-
-  pub valid-checked : Valid b → given (sizesOf b) ≡ checked part b
-  valid-checked v = gives (sizesOf b) (valid-sound v)
 
 -- the family of a valid sheet is complete, with every count from 1 to 32
 pub valid-packable : (b : List ℕ) → Valid b → Packable (decode b)

@@ -24,17 +24,24 @@ progressFault part b q (suc c) =
     then scan 6 part 0 2 b (marksAt b q) (sizeOf b q)
     then progressFault part b (suc q) c
 
--- 1 (two bytes), 2, 3, 1 (sizes), 4, 1 (whole), then the first offending byte for 5 or 6. Counts run from 1 to 32.
-unfoldable pub sheetFault : Part → List ℕ → Fault
-sheetFault part b =
+-- The counts, which run from 1 to 32: 1 (two bytes), 2, 3, 1 (sizes), 4.
+unfoldable pub headerFault : Part → List ℕ → Fault
+headerFault part b =
     when (ltb (length b) 2) 1 part (length b)
     then when (outside 1 33 (letterCount b)) 2 part 0
     then when (outside 1 33 (stateCount b)) 3 part 1
     then when (ltb (length b) (leadingAt b)) 1 part (length b)
     then scan 4 part 1 33 b 2 (stateCount b)
-    then when (not (eqb (length b) (sheetLength b))) 1 part (length b)
+
+-- The tables: 1 (whole), then the first offending byte for 5 or 6.
+unfoldable pub tablesFault : Part → List ℕ → Fault
+tablesFault part b =
+    when (not (eqb (length b) (sheetLength b))) 1 part (length b)
     then scan 5 part 0 (stateCount b) b (leadingAt b) (stateCount b * letterCount b)
     then progressFault part b 0 (stateCount b)
+
+unfoldable pub sheetFault : Part → List ℕ → Fault
+sheetFault part b = headerFault part b then tablesFault part b
 
 abbrev pub sizesOf : List ℕ → Sizes
 sizesOf b = record { letters = letterCount b; states = stateCount b; widest = widest (decode b) }

@@ -12,7 +12,7 @@ use Rattle.slices.specs.Refusals.{Result, given, refused}
 use Rattle.slices.specs.Tables.{tab, rows, sum}
 use Rattle.packed.specs.Layout.{decode, progressAt}
 use Rattle.slices.specs.Scans.{firstOutside}
-use Rattle.packed.specs.Faults.{progressFault, sheetFault}
+use Rattle.packed.specs.Faults.{progressFault, headerFault, tablesFault, sheetFault}
 use Rattle.membership.specs.Verdict.{lassoFault, judged}
 use Rattle.cursor.specs.declared.Cursor.{Cursor}
 use Rattle.cursor.specs.Walking.{startOf, nextOf, stepped, moved}
@@ -88,7 +88,7 @@ starred =
     ∷ []
 
 pub holds : All starred
-unfolding least returnFrom returning firstLetter firstOfLength firstWord largest countBelow tab rows sum progressAt firstOutside progressFault sheetFault lassoFault
+unfolding least returnFrom returning firstLetter firstOfLength firstWord largest countBelow tab rows sum progressAt firstOutside progressFault headerFault tablesFault sheetFault lassoFault
 holds = (
   (refl, refl, refl),
   (

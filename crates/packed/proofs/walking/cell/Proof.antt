@@ -1,5 +1,4 @@
 -- `packed::walking::cell` meets its contract. Assumes nothing.
-use mathlib.Core.Path.{sym}
 use Prim.Native.Nat.{ℕ, _+_, _*_, _/_, _%_, _≤_, _<_}
 use native.Mathlib.Omega.{arith}
 use denote.Ref.{now}

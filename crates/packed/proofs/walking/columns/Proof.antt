@@ -1,5 +1,5 @@
 -- `packed::walking::columns` meets its contract: cell after cell. Assumes nothing.
-use Prim.Native.Nat.{ℕ, _*_, _-_}
+use Prim.Native.Nat.{_*_, _-_}
 use native.Mathlib.Omega.{arith}
 use lib.ListN.{length-replicate}
 use Rattle.slices.proofs.Filling.{Filling, filling-none, filling-more, filling-all}

@@ -1,4 +1,4 @@
--- `packed::widest` meets its contract. Assumes nothing.
+-- `packed::checking::widest` meets its contract. Assumes nothing.
 use mathlib.Core.Path.{_≡_, refl, ap, _∙_}
 use mathlib.Core.Logic.{⊎-elim}
 use Prim.Native.Nat.{ℕ, max, _+_, _-_, _≤_}
@@ -7,8 +7,8 @@ use native.Mathlib.Numerals.{add-one}
 use Rattle.slices.specs.Extremes.{largest}
 use Rattle.packed.specs.Layout.{sizeOf}
 use borrow.Author.Needs.{needs}
-use Rattle.packed.proofs.widest.Statement.{statement}
-use Rattle.packed.proofs.widest.Tie as tie
+use Rattle.packed.proofs.checking.widest.Statement.{statement}
+use Rattle.packed.proofs.checking.widest.Tie as tie
 
 abbrev Inv-loop : tie.InvT-loop
 Inv-loop sheet n most₀ q₀ most q = (q ≤ n) × (most ≡ largest q (sizeOf sheet))

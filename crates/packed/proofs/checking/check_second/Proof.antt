@@ -1,4 +1,4 @@
--- `packed::check_second` meets its contract. Assumes nothing.
+-- `packed::checking::check_second` meets its contract. Assumes nothing.
 use mathlib.Core.Path.{_≡_, ap, sym, _∙_}
 use mathlib.Core.Bool.{not}
 use denote.Ref.{now}
@@ -10,8 +10,8 @@ use Rattle.packed.specs.declared.Sizes.{Sizes}
 use Rattle.packed.specs.Layout.{letterCount}
 use Rattle.packed.specs.Faults.{sheetFault, sizesOf, saysOf, BothSizes}
 use borrow.Author.Needs.{needs}
-use Rattle.packed.proofs.check_second.Statement.{statement}
-use Rattle.packed.proofs.check_second.Tie as tie
+use Rattle.packed.proofs.checking.check_second.Statement.{statement}
+use Rattle.packed.proofs.checking.check_second.Tie as tie
 
 abbrev start : tie.After-check → tie.Start
 start c = c .before .before

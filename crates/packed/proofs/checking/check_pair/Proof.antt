@@ -1,4 +1,4 @@
--- `packed::check_pair` meets its contract. Assumes nothing.
+-- `packed::checking::check_pair` meets its contract. Assumes nothing.
 use mathlib.Core.Path.{_≡_, ap, sym, _∙_}
 use mathlib.Core.List.{List}
 use Prim.Native.Nat.{ℕ}
@@ -9,8 +9,8 @@ use Rattle.slices.proofs.Refusals.{passed, failed, refuses, was-given, was-refu
 use Rattle.packed.specs.declared.Sizes.{Sizes}
 use Rattle.packed.specs.Faults.{sheetFault, sizesOf, saysOf, secondFault, BothSizes}
 use borrow.Author.Needs.{needs}
-use Rattle.packed.proofs.check_pair.Statement.{statement}
-use Rattle.packed.proofs.check_pair.Tie as tie
+use Rattle.packed.proofs.checking.check_pair.Statement.{statement}
+use Rattle.packed.proofs.checking.check_pair.Tie as tie
 
 abbrev start : tie.After-check → tie.Start
 start c = c .before .before .before
