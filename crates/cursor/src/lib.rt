@@ -4,16 +4,17 @@ use slices::Refusal;
 use slices::refuse;
 ghost use mathlib.Core.Path.{_≡_};
 ghost use denote.Ref.{ptr};
-ghost use Rattle.cursor.specs.Walking.{startOf, stepFault, stepped, passedIn, saysOf, restOf, restLies};
+ghost use Rattle.cursor.specs.Walking.{startOf, stepped, saysOf, restOf, restLies};
+ghost use Rattle.cursor.specs.Passing.{passedIn};
 
-// The part of the lasso that the cursor stands in.
-pub enum Playing {
+// The word of the lasso that the cursor stands in.
+pub enum Phase {
     Prefix,
     Period,
 }
 
 pub struct Cursor {
-    pub part: Playing,
+    pub phase: Phase,
     pub at: usize,
 }
 
@@ -29,12 +30,12 @@ pub fn start(prefix: &[u8]) -> Cursor
 {
     if prefix.len() == 0 {
         Cursor {
-            part: Playing::Period,
+            phase: Phase::Period,
             at: 0,
         }
     } else {
         Cursor {
-            part: Playing::Prefix,
+            phase: Phase::Prefix,
             at: 0,
         }
     }
@@ -50,13 +51,13 @@ fn pass(c: Cursor, word: &[u8]) -> Step
     }
     let letter = word[at];
     if at + 1 < word.len() {
-        let part = c.part;
-        Step::Passed(letter, Cursor { part, at: at + 1 })
+        let phase = c.phase;
+        Step::Passed(letter, Cursor { phase, at: at + 1 })
     } else {
         Step::Passed(
             letter,
             Cursor {
-                part: Playing::Period,
+                phase: Phase::Period,
                 at: 0,
             },
         )
@@ -71,34 +72,34 @@ impl Cursor {
         if period.len() == 0 {
             return Step::Refused(refuse(8, Part::Loop, 0), self);
         }
-        let part = self.part;
-        match part {
-            Playing::Prefix => pass(self, prefix),
-            Playing::Period => pass(self, period),
+        let phase = self.phase;
+        match phase {
+            Phase::Prefix => pass(self, prefix),
+            Phase::Period => pass(self, period),
         }
     }
 }
 
-// The rest of the part that the cursor stands in, as a part of the caller's own slice. It is never refused: where a step
+// The rest of the word that the cursor stands in, as a part of the caller's own slice. It is never refused: where a step
 // would be, it is the empty part at the prefix's start.
 pub fn rest<'a>(c: Cursor, prefix: &'a [u8], period: &'a [u8]) -> &'a [u8]
-    ensures holds { λ r. ⌜ now r ≡ restOf (stepFault c (now (prefix .entry)) (now (period .entry))) c (now (prefix .entry)) (now (period .entry)) ⌝ }
-    ensures lies { λ r. ⌜ ptr r ≡ restLies (stepFault c (now (prefix .entry)) (now (period .entry))) c (ptr (prefix .entry)) (ptr (period .entry)) ⌝ }
+    ensures holds { λ r. ⌜ now r ≡ restOf c (now (prefix .entry)) (now (period .entry)) ⌝ }
+    ensures lies { λ r. ⌜ ptr r ≡ restLies c (now (prefix .entry)) (now (period .entry)) (ptr (prefix .entry)) (ptr (period .entry)) ⌝ }
 {
     if period.len() == 0 {
         return &prefix[..0];
     }
-    let part = c.part;
+    let phase = c.phase;
     let at = c.at;
-    match part {
-        Playing::Prefix => {
+    match phase {
+        Phase::Prefix => {
             if at < prefix.len() {
                 &prefix[at..]
             } else {
                 &prefix[..0]
             }
         }
-        Playing::Period => {
+        Phase::Period => {
             if at < period.len() {
                 &period[at..]
             } else {

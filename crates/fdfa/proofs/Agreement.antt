@@ -45,4 +45,4 @@ module _ (F G : Fdfa) (complete : Complete F) (same : Agrees F G) (u v : List �
       same .marks (loopState F u v) (endState F u v) loop-below end-below ∙ (λ i. G .accepting (loop-same i) (end-same i))
 
   pub verdict-same : verdict F u v ≡ verdict G u v
-  verdict-same = λ i. record { accepted = accepts-same i; i = preperiod-same i; j = period-same i; place = loop-same i; end = end-same i }
+  verdict-same = λ i. record { accepted = accepts-same i; i = preperiod-same i; j = period-same i; state = loop-same i; end = end-same i }

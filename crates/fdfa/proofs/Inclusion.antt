@@ -132,7 +132,7 @@ module _ (F G : Fdfa) (alike : F .letters ≡ G .letters) (CF : Complete F) (CG 
         c = product-parts butNot F G alike CF CG _ _ (n .lasso) (n .closes)
 
         some : 0 < periodCount P u v
-        some = normal P CP u v l .turned
+        some = normal P CP u v l .positive
 
     -- and contained means that there is no such lasso at all
     pub contained-all : comparison F G .witness ≡ absent → (u v : List ℕ) → Lasso (F .letters) u v → accepts F u v ≡ true → accepts G u v ≡ false → ⊥

@@ -7,15 +7,8 @@ use Rattle.fdfa.specs.Words.{turns}
 use Rattle.fdfa.specs.Family.{Fdfa, Complete, walk, Lasso}
 use Rattle.fdfa.specs.Normalization.{Smallest, after, preperiod, periodCount, Normalized}
 use Rattle.fdfa.specs.Acceptance.{loopState, endState, accepts}
-use Rattle.fdfa.proofs.Words.{over-append, over-turns, turns-one, turns-add, turns-on, lasso-turned, walk-append, walk-closed}
-use Rattle.fdfa.proofs.Returns.{Follows, smallest, few, first-return}
-
--- after equally many further turns, equal states are equal again
-pub turns-follow : (f : ℕ → ℕ → ℕ) (q : ℕ) (v : List ℕ) → Follows (λ t. walk f q (turns v t))
-turns-follow f q v a b k e = on a ∙ (ap (λ (x : ℕ). walk f x (turns v k)) e ∙ sym (on b))
-  where
-    on : (c : ℕ) → walk f q (turns v (c + k)) ≡ walk f (walk f q (turns v c)) (turns v k)
-    on c = ap (walk f q) (turns-add v c k) ∙ walk-append f q (turns v c) (turns v k)
+use Rattle.fdfa.proofs.Words.{over-append, over-turns, turns-one, turns-on, lasso-turned, walk-append, walk-closed}
+use Rattle.fdfa.proofs.Returns.{Follows, smallest, few}
 
 -- u and a turns, then k more
 pub after-add : (F : Fdfa) (u v : List ℕ) (a k : ℕ) → after F u v (a + k) ≡ walk (F .step) (after F u v a) (turns v k)
@@ -43,14 +36,9 @@ module _ (F : Fdfa) (complete : Complete F) (u v : List ℕ) (lasso : Lasso (F .
   pub few-turns : preperiod F u v + periodCount F u v ≤ F .states
   few-turns = few (F .states) (after F u v) follows inside
 
-  -- the first repeated state shows i and j
-  pub by-first-return : (i j : ℕ) → 1 ≤ j → after F u v i ≡ after F u v (i + j) → ((a b : ℕ) → a < b → b < i + j → after F u v a ≡ after F u v b → ⊥)
-      → (preperiod F u v ≡ i) × (periodCount F u v ≡ j)
-  by-first-return = first-return (F .states) (after F u v) follows inside
-
   -- a lasso is normalized exactly if one turn leads back
   pub back-normalized : walk (F .step) (walk (F .step) 0 u) v ≡ walk (F .step) 0 u → Normalized F u v
-  back-normalized e = record { no-preperiod = omega (arith, normal .least-i 0 1 (omega arith) once); one-turn = omega (arith, normal .least-j 0 1 (omega arith) once, normal .turned) }
+  back-normalized e = record { no-preperiod = omega (arith, normal .least-i 0 1 (omega arith) once); one-turn = omega (arith, normal .least-j 0 1 (omega arith) once, normal .positive) }
     where
       once : after F u v 0 ≡ after F u v (0 + 1)
       once = after-none F u v ∙ (sym e ∙ sym (after-one F u v))
@@ -63,7 +51,7 @@ module _ (F : Fdfa) (complete : Complete F) (u v : List ℕ) (lasso : Lasso (F .
       sym (after-one F u v) ∙ (sym same ∙ after-none F u v)
 
   lasso′ : Lasso (F .letters) (u ++ turns v (preperiod F u v)) (turns v (periodCount F u v))
-  lasso′ = lasso-turned lasso (preperiod F u v) (periodCount F u v) (normal .turned)
+  lasso′ = lasso-turned lasso (preperiod F u v) (periodCount F u v) (normal .positive)
 
 -- the verdict of a normalized lasso: one turn in the progress automaton of the state after u
 pub normalized-loop : (F : Fdfa) (u v : List ℕ) → Normalized F u v → loopState F u v ≡ walk (F .step) 0 u

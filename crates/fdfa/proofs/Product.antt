@@ -153,7 +153,7 @@ module _ (op : Bool → Bool → Bool) (F G : Fdfa) (alike : F .letters ≡ G .l
       c = product-parts x y (n .lasso) (n .closes)
 
       some : 0 < periodCount P u v
-      some = normal P product-complete u v lasso .turned
+      some = normal P product-complete u v lasso .positive
 
 -- The same by name: intersection and union.
 module _ (F G : Fdfa) (alike : F .letters ≡ G .letters) (CF : Complete F) (CG : Complete G) (u v : List ℕ) (lasso : Lasso (F .letters) u v) where

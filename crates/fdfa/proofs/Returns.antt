@@ -17,8 +17,8 @@ Follows g = (a b k : ℕ) → g a ≡ g b → g (a + k) ≡ g (b + k)
 -- Only one pair of numbers is the smallest.
 pub smallest-unique : (g : ℕ → ℕ) {i j i′ j′ : ℕ} → Smallest g i j → Smallest g i′ j′ → (i ≡ i′) × (j ≡ j′)
 smallest-unique g {i} {j} {i′} {j′} p q = (
-  le-antisymm (p .least-i i′ j′ (q .turned) (q .same)) (q .least-i i j (p .turned) (p .same)),
-  le-antisymm (p .least-j i′ j′ (q .turned) (q .same)) (q .least-j i j (p .turned) (p .same)),
+  le-antisymm (p .least-i i′ j′ (q .positive) (q .same)) (q .least-i i j (p .positive) (p .same)),
+  le-antisymm (p .least-j i′ j′ (q .positive) (q .same)) (q .least-j i j (p .positive) (p .same)),
 )
 
 module _ (n : ℕ) (g : ℕ → ℕ) (follows : Follows g) (inside : (t : ℕ) → g t < n) where
@@ -97,7 +97,7 @@ module _ (n : ℕ) (g : ℕ → ℕ) (follows : Follows g) (inside : (t : ℕ) �
 
   pub smallest : Smallest g (returning n g) (returnFrom n g (returning n g))
   smallest = record {
-    turned = return-some (returning n g);
+    positive = return-some (returning n g);
     same = return-same (returning n g) return-below;
     least-i = returning-le;
     least-j = shortest;
@@ -149,5 +149,5 @@ module _ (n : ℕ) (g : ℕ → ℕ) (follows : Follows g) (inside : (t : ℕ) �
 
       by : Dec (returning n g + returnFrom n g (returning n g) < i + j) → (returning n g ≡ i) × (returnFrom n g (returning n g) ≡ j)
       by (yes h) =
-          absurd (distinct (returning n g) (returning n g + returnFrom n g (returning n g)) (omega (arith, smallest .turned)) h (smallest .same))
+          absurd (distinct (returning n g) (returning n g + returnFrom n g (returning n g)) (omega (arith, smallest .positive)) h (smallest .same))
       by (no h) = (omega (arith, low, short), omega (arith, low, short))

@@ -22,7 +22,7 @@ pub record Verdict : Type 0 where
   pub accepted : Bool
   pub i : ℕ
   pub j : ℕ
-  pub place : ℕ
+  pub state : ℕ
   pub end : ℕ
 
 abbrev pub verdict : Fdfa → List ℕ → List ℕ → Verdict
@@ -30,6 +30,6 @@ verdict F u v = record {
   accepted = accepts F u v;
   i = preperiod F u v;
   j = periodCount F u v;
-  place = loopState F u v;
+  state = loopState F u v;
   end = endState F u v;
 }

@@ -18,7 +18,7 @@ returning n g = least n (λ i. leb (returnFrom n g i) n)
 
 -- What the two are, of any numbers: g returns from i after j, and each of i and j is the smallest, by itself, among all.
 pub record Smallest (g : ℕ → ℕ) (i j : ℕ) : Type 0 where
-  pub turned : 1 ≤ j
+  pub positive : 1 ≤ j
   pub same : g i ≡ g (i + j)
   pub least-i : (i′ j′ : ℕ) → 1 ≤ j′ → g i′ ≡ g (i′ + j′) → i ≤ i′
   pub least-j : (i′ j′ : ℕ) → 1 ≤ j′ → g i′ ≡ g (i′ + j′) → j ≤ j′

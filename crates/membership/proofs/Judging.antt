@@ -1,52 +1,55 @@
--- Sheet and lasso are refused for nothing exactly if the sheet is valid and the lasso is one over its letters. Assumes nothing.
-use mathlib.Core.Path.{_≡_, refl, ap, sym, _∙_}
-use mathlib.Core.Bool.{Bool}
+-- Sheet and lasso: which refusal is met, and that none is exactly if the sheet is valid and the lasso is one over its letters. Assumes nothing.
+use mathlib.Core.Path.{_≡_, refl, ap}
 use mathlib.Core.List.{List, [], _∷_}
-use Prim.Native.Nat.{ℕ, _+_, _<_}
+use Prim.Native.Nat.{ℕ, _≤_, _<_}
 use native.Mathlib.Omega.{arith}
+use native.Mathlib.Nat.{zero-add}
 use lib.Dec.{eqb}
-use lib.ListN.{length, getD}
-use borrow.Author.Tests.{ne-eqb, eqb-false}
+use lib.ListN.{length}
+use borrow.Author.Tests.{lt-ltb, le-ltb, eq-eqb, ne-eqb, eqb-false}
 use Rattle.slices.specs.declared.Part.{Part}
 use Rattle.slices.specs.declared.Part.the-variants.{First, Opening, Loop}
-use Rattle.fdfa.specs.Words.{Over, turns}
-use Rattle.fdfa.specs.Family.{walk, Lasso}
-use Rattle.fdfa.specs.Normalization.{returnFrom, returning, after}
-use Rattle.fdfa.specs.Acceptance.{Verdict, verdict}
-use Rattle.slices.specs.Refusals.{Fault, sound, _then_, when}
-use Rattle.slices.proofs.Refusals.{when-passes, passed, then-left, then-right, when-sound}
-use Rattle.fdfa.proofs.Words.{letters-over, over-letter, walk-append}
-use Rattle.packed.specs.Layout.{letterCount, stateCount, decode, Valid}
-use Rattle.slices.specs.Scans.{scan}
+use Rattle.slices.specs.Refusals.{Fault, sound, faultOf, _then_, when}
+use Rattle.slices.specs.Scans.{firstOutside, scan}
+use Rattle.slices.proofs.Refusals.{then-left, then-right, when-sound}
+use Rattle.fdfa.specs.Words.{Over}
+use Rattle.fdfa.specs.Family.{Lasso}
+use Rattle.fdfa.proofs.Words.{letters-over, over-letter}
+use Rattle.packed.specs.Layout.{letterCount, Valid}
 use Rattle.packed.specs.Faults.{sheetFault}
 use Rattle.packed.proofs.Soundness.{sound-valid, valid-sound, scan-sound, sound-scan}
-use Rattle.membership.specs.Verdict.{lassoFault, Closing, Ends}
+use Rattle.membership.specs.Verdict.{lassoFault}
+
+-- the tests after the sheet's, from what the code knows where it meets them
+module _ (b u v : List ℕ) (good : sheetFault First b ≡ sound) {s : ℕ} (letters : s ≡ letterCount b) {i : ℕ} (stops : i ≡ firstOutside 0 s u 0 (length u)) where
+  pub bad-prefix : i < length u → lassoFault b u v ≡ faultOf 9 Opening i
+  unfolding lassoFault
+  bad-prefix h = rw (good, ← letters, ← stops, lt-ltb _ _ h, zero-add i)
+
+  module _ (known : length u ≤ i) where
+    pub no-period : length v ≡ 0 → lassoFault b u v ≡ faultOf 8 Loop 0
+    unfolding lassoFault
+    no-period e = rw (good, ← letters, ← stops, le-ltb _ _ known, eq-eqb _ 0 e)
+
+    module _ (some : length v ≡ 0 → ⊥) {j : ℕ} (ends : j ≡ firstOutside 0 s v 0 (length v)) where
+      pub bad-period : j < length v → lassoFault b u v ≡ faultOf 9 Loop j
+      unfolding lassoFault
+      bad-period h = rw (good, ← letters, ← stops, le-ltb _ _ known, ne-eqb _ 0 some, ← ends, lt-ltb _ _ h, zero-add j)
+
+      pub good-lasso : length v ≤ j → lassoFault b u v ≡ sound
+      unfolding lassoFault
+      good-lasso h = rw (good, ← letters, ← stops, le-ltb _ _ known, ne-eqb _ 0 some, ← ends, le-ltb _ _ h)
 
 -- a word is refused for no letter exactly if all are the sheet's
 word-over : (part : Part) (s : ℕ) (w : List ℕ) → scan 9 part 0 s w 0 (length w) ≡ sound → Over s w
-word-over part s w e = letters-over s w (λ i h. let l = scan-sound 9 part 0 s w 0 (length w) e i h .1 in at i l)
-  where
-    at : (i : ℕ) → getD w (0 + i) 0 < s → getD w i 0 < s
-    at i l = let e : getD w (0 + i) 0 ≡ getD w i 0 = ap (λ (k : ℕ). getD w k 0) (omega arith) in omega arith
+word-over part s w e = letters-over s w (λ i h. rw (zero-add i) at (scan-sound 9 part 0 s w 0 (length w) e i h .1))
 
 over-word : (part : Part) (s : ℕ) (w : List ℕ) → Over s w → scan 9 part 0 s w 0 (length w) ≡ sound
-over-word part s w o = sound-scan 9 part 0 s w 0 (length w) (λ i h. (omega arith, at i (over-letter o i h)))
-  where
-    at : (i : ℕ) → getD w i 0 < s → getD w (0 + i) 0 < s
-    at i l = let e : getD w (0 + i) 0 ≡ getD w i 0 = ap (λ (k : ℕ). getD w k 0) (omega arith) in omega arith
+over-word part s w o = sound-scan 9 part 0 s w 0 (length w) (λ i h. (omega arith, rw (zero-add i) (over-letter o i h)))
 
 module _ (b u v : List ℕ) where
-  t2 : Fault
-  t2 = scan 9 Opening 0 (letterCount b) u 0 (length u)
-
-  t3 : Fault
-  t3 = when (eqb (length v) 0) 8 Loop 0
-
-  t4 : Fault
-  t4 = scan 9 Loop 0 (letterCount b) v 0 (length v)
-
   pub lasso-valid : lassoFault b u v ≡ sound → Valid b × Lasso (letterCount b) u v
-  unfolding lassoFault t2 t3 t4
+  unfolding lassoFault
   lasso-valid e = (
     sound-valid First b (then-left (sheetFault First b) (t2 then (t3 then t4)) e),
     record {
@@ -56,6 +59,15 @@ module _ (b u v : List ℕ) where
     },
   )
     where
+      t2 : Fault
+      t2 = scan 9 Opening 0 (letterCount b) u 0 (length u)
+
+      t3 : Fault
+      t3 = when (eqb (length v) 0) 8 Loop 0
+
+      t4 : Fault
+      t4 = scan 9 Loop 0 (letterCount b) v 0 (length v)
+
       e2 : t2 then (t3 then t4) ≡ sound
       e2 = then-right (sheetFault First b) (t2 then (t3 then t4)) e
 
@@ -72,36 +84,4 @@ module _ (b u v : List ℕ) where
   pub valid-lasso : Valid b → Lasso (letterCount b) u v → lassoFault b u v ≡ sound
   unfolding lassoFault
   valid-lasso valid lasso =
-      passed _ (valid-sound First b valid)
-      ∙ (passed _ (over-word Opening (letterCount b) u (lasso .prefix))
-      ∙ (passed _ (when-passes 8 Loop 0 (ne-eqb (length v) 0 (some-letters (lasso .loops)))) ∙ over-word Loop (letterCount b) v (lasso .period)))
-
-  -- the numbers that the walk finds are the verdict's
-  pub verdict-found : {i j place end : ℕ} {accepted : Bool} → Closing b u v i j place → Ends b v place j end accepted
-      → _≡_ {A = Verdict} (record { accepted = accepted; i = i; j = j; place = place; end = end }) (verdict (decode b) u v)
-  verdict-found {i} {j} {place} {end} {accepted} c d = λ k. record {
-    accepted = (d .says ∙ (λ m. decode b .accepting (p m) (e m))) k;
-    i = pre k;
-    j = per k;
-    place = p k;
-    end = e k;
-  }
-    where
-      f : ℕ → ℕ → ℕ
-      f = decode b .step
-
-      -- u, then turns
-      turned : (t : ℕ) → walk f (walk f 0 u) (turns v t) ≡ after (decode b) u v t
-      turned t = sym (walk-append f 0 u (turns v t))
-
-      pre : i ≡ returning (stateCount b) (after (decode b) u v)
-      pre = c .preperiod ∙ (λ k. returning (stateCount b) (λ t. turned t k))
-
-      per : j ≡ returnFrom (stateCount b) (after (decode b) u v) (returning (stateCount b) (after (decode b) u v))
-      per = c .period ∙ (λ k. returnFrom (stateCount b) (λ t. turned t k) (pre k))
-
-      p : place ≡ after (decode b) u v (returning (stateCount b) (after (decode b) u v))
-      p = c .at ∙ (λ k. turned (pre k) k)
-
-      e : end ≡ walk (decode b .progress (after (decode b) u v (returning (stateCount b) (after (decode b) u v)))) 0 (turns v (returnFrom (stateCount b) (after (decode b) u v) (returning (stateCount b) (after (decode b) u v))))
-      e = d .stands ∙ (λ k. walk (decode b .progress (p k)) 0 (turns v (per k)))
+      rw (valid-sound First b valid, over-word Opening (letterCount b) u (lasso .prefix), ne-eqb (length v) 0 (some-letters (lasso .loops))) (over-word Loop (letterCount b) v (lasso .period))

@@ -8,11 +8,10 @@ ghost use mathlib.Core.Path.{_≡_};
 ghost use Prim.Native.Nat.{_<_};
 ghost use Rattle.fdfa.specs.Words.{Over};
 ghost use Rattle.fdfa.specs.Family.{Lasso};
-ghost use Rattle.slices.specs.Refusals.{unless};
-ghost use Rattle.packed.specs.Layout.{letterCount, stateCount, leadingAt, Valid};
-ghost use Rattle.packed.specs.Faults.{sizesOf};
+ghost use Rattle.packed.specs.Layout.{letterCount, stateCount, leadingAt, decode, Valid};
 ghost use Rattle.slices.specs.declared.Refusal.{Refusal};
-ghost use Rattle.membership.specs.Verdict.{lassoFault, judged, saysOf, checkSays, Closing, Ends};
+ghost use Rattle.membership.specs.Verdict.{checkedLasso, verdictOf, saysOf, checkSays};
+ghost use Rattle.membership.specs.Steps.{normalizedOf, endedOf};
 
 // The verdict: whether the lasso is accepted, i and j, the leading state q after u and i turns, and the state of q's
 // progress automaton after j turns.
@@ -21,7 +20,7 @@ pub enum Judgement {
         accepted: bool,
         i: usize,
         j: usize,
-        place: usize,
+        state: usize,
         end: usize,
     },
     Refused(Refusal),
@@ -37,7 +36,7 @@ pub enum Checked {
 struct Normalized {
     i: usize,
     j: usize,
-    place: usize,
+    state: usize,
 }
 
 // Where the progress automaton ends, and whether it accepts there.
@@ -48,7 +47,7 @@ struct Ended {
 
 // Whether sheet and lasso are good: first the sheet, then the prefix, then the period.
 pub fn check(sheet: &[u8], prefix: &[u8], period: &[u8]) -> Checked
-    ensures { λ r. ⌜ checkSays r ≡ unless (lassoFault (now (sheet .entry)) (now (prefix .entry)) (now (period .entry))) (sizesOf (now (sheet .entry))) ⌝ }
+    ensures { λ r. ⌜ checkSays r ≡ checkedLasso (now (sheet .entry)) (now (prefix .entry)) (now (period .entry)) ⌝ }
 {
     let validity = packed::check(sheet, Part::First);
     match validity {
@@ -71,7 +70,7 @@ pub fn check(sheet: &[u8], prefix: &[u8], period: &[u8]) -> Checked
     }
 }
 
-// Turns the period from the leading state after the prefix until a state comes again. `seen` has, for each state, one more
+// Goes by the period from the leading state after the prefix until a state comes again. `seen` has, for each state, one more
 // than the turns after which it was first there.
 fn normalize(
     sheet: &[u8],
@@ -83,7 +82,7 @@ fn normalize(
 ) -> Normalized
     requires { ⌜ Valid (now sheet) × Lasso (letterCount (now sheet)) (now prefix) (now period) ⌝ }
     requires { ⌜ (at ≡ leadingAt (now sheet)) × (letters ≡ letterCount (now sheet)) × (states ≡ stateCount (now sheet)) ⌝ }
-    ensures { λ r. ⌜ Closing (now (sheet .entry)) (now (prefix .entry)) (now (period .entry)) (r .i) (r .j) (r .place) ⌝ }
+    ensures { λ r. ⌜ r ≡ normalizedOf (decode (now (sheet .entry))) (now (prefix .entry)) (now (period .entry)) ⌝ }
 {
     let table = packed::columns(sheet, at, letters, states);
     let mut seen = [0usize; 32];
@@ -98,7 +97,7 @@ fn normalize(
     Normalized {
         i,
         j: t - i,
-        place: q,
+        state: q,
     }
 }
 
@@ -106,7 +105,7 @@ fn normalize(
 fn progress(sheet: &[u8], letters: usize, q: usize, period: &[u8], count: usize) -> Ended
     requires { ⌜ Valid (now sheet) × Over (letterCount (now sheet)) (now period) × (q < stateCount (now sheet)) ⌝ }
     requires { ⌜ letters ≡ letterCount (now sheet) ⌝ }
-    ensures { λ r. ⌜ Ends (now (sheet .entry)) (now (period .entry)) q count (r .end) (r .accepted) ⌝ }
+    ensures { λ r. ⌜ r ≡ endedOf (decode (now (sheet .entry))) (now (period .entry)) q count ⌝ }
 {
     let at = packed::progress_at(sheet, q);
     let k = packed::size(sheet, q);
@@ -134,7 +133,7 @@ fn refused(c: Checked) -> Judgement
             accepted: false,
             i: 0,
             j: 0,
-            place: 0,
+            state: 0,
             end: 0,
         },
     }
@@ -142,7 +141,7 @@ fn refused(c: Checked) -> Judgement
 
 // The verdict of the sheet's family on the lasso (01: the show), or the refusal.
 pub fn verdict(sheet: &[u8], prefix: &[u8], period: &[u8]) -> Judgement
-    ensures { λ r. ⌜ saysOf r ≡ judged (now (sheet .entry)) (now (prefix .entry)) (now (period .entry)) ⌝ }
+    ensures { λ r. ⌜ saysOf r ≡ verdictOf (now (sheet .entry)) (now (prefix .entry)) (now (period .entry)) ⌝ }
 {
     let checked = check(sheet, prefix, period);
     let Checked::Lasso(sizes) = checked else {
@@ -150,12 +149,12 @@ pub fn verdict(sheet: &[u8], prefix: &[u8], period: &[u8]) -> Judgement
     };
     let s = sizes.letters;
     let n = normalize(sheet, 2 + sizes.states, s, sizes.states, prefix, period);
-    let ended = progress(sheet, s, n.place, period, n.j);
+    let ended = progress(sheet, s, n.state, period, n.j);
     Judgement::Given {
         accepted: ended.accepted,
         i: n.i,
         j: n.j,
-        place: n.place,
+        state: n.state,
         end: ended.end,
     }
 }

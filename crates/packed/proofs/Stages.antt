@@ -8,38 +8,34 @@ use native.Mathlib.Numerals.{add-one}
 use lib.ListN.{length}
 use borrow.Author.Tests.{lt-ltb, le-ltb, eq-eqb, ne-eqb}
 use Rattle.slices.specs.declared.Part.{Part}
-use Rattle.slices.specs.Refusals.{Fault, sound, fault, _then_}
+use Rattle.slices.specs.Refusals.{sound, faultOf, _then_}
 use Rattle.slices.specs.Scans.{outside, firstOutside, scan}
 use Rattle.packed.specs.Layout.{letterCount, stateCount, sizeOf, progressAt, sheetLength}
 use Rattle.packed.specs.Faults.{progressFault, headerFault, tablesFault}
 
--- a refusal
-abbrev at-fault : ℕ → Part → ℕ → Fault
-at-fault number part place = fault (record { number = number; part = part; place = place })
-
 -- the counts
 module _ (part : Part) (b : List ℕ) where
-  pub no-counts : length b < 2 → headerFault part b ≡ at-fault 1 part (length b)
+  pub no-counts : length b < 2 → headerFault part b ≡ faultOf 1 part (length b)
   unfolding headerFault
   no-counts h = rw (lt-ltb _ 2 h)
 
   module _ (two : 2 ≤ length b) where
-    pub bad-letters : outside 1 33 (letterCount b) ≡ true → headerFault part b ≡ at-fault 2 part 0
+    pub bad-letters : outside 1 33 (letterCount b) ≡ true → headerFault part b ≡ faultOf 2 part 0
     unfolding headerFault
     bad-letters e = rw (le-ltb _ 2 two, e)
 
     module _ (letters : outside 1 33 (letterCount b) ≡ false) where
-      pub bad-states : outside 1 33 (stateCount b) ≡ true → headerFault part b ≡ at-fault 3 part 1
+      pub bad-states : outside 1 33 (stateCount b) ≡ true → headerFault part b ≡ faultOf 3 part 1
       unfolding headerFault
       bad-states e = rw (le-ltb _ 2 two, letters, e)
 
       module _ (states : outside 1 33 (stateCount b) ≡ false) {n : ℕ} (count : n ≡ stateCount b) where
-        pub no-sizes : length b < 2 + n → headerFault part b ≡ at-fault 1 part (length b)
+        pub no-sizes : length b < 2 + n → headerFault part b ≡ faultOf 1 part (length b)
         unfolding headerFault
         no-sizes h = rw (le-ltb _ 2 two, letters, states, ← count, lt-ltb _ _ h)
 
         module _ (sizes : 2 + n ≤ length b) {q : ℕ} (stops : q ≡ firstOutside 1 33 b 2 n) where
-          pub bad-size : q < n → headerFault part b ≡ at-fault 4 part (2 + q)
+          pub bad-size : q < n → headerFault part b ≡ faultOf 4 part (2 + q)
           unfolding headerFault
           bad-size h = rw (le-ltb _ 2 two, letters, states, ← count, le-ltb _ _ sizes, ← stops, lt-ltb _ _ h)
 
@@ -49,12 +45,12 @@ module _ (part : Part) (b : List ℕ) where
 
 -- the length and the leading table
 module _ (part : Part) (b : List ℕ) where
-  pub bad-length : (length b ≡ sheetLength b → ⊥) → tablesFault part b ≡ at-fault 1 part (length b)
+  pub bad-length : (length b ≡ sheetLength b → ⊥) → tablesFault part b ≡ faultOf 1 part (length b)
   unfolding tablesFault
   bad-length h = rw (ne-eqb _ _ h)
 
   module _ (exact : length b ≡ sheetLength b) {n s i : ℕ} (count : n ≡ stateCount b) (letters : s ≡ letterCount b) (stops : i ≡ firstOutside 0 n b (2 + n) (n * s)) where
-    pub bad-leading : i < n * s → tablesFault part b ≡ at-fault 5 part (2 + n + i)
+    pub bad-leading : i < n * s → tablesFault part b ≡ faultOf 5 part (2 + n + i)
     unfolding tablesFault
     bad-leading h = rw (eq-eqb _ _ exact, ← count, ← letters, ← stops, lt-ltb _ _ h)
 
@@ -73,11 +69,11 @@ module _ (part : Part) (b : List ℕ) {q n at k s i : ℕ} (begin : at ≡ progr
       left : n - q ≡ suc (n - (q + 1))
       left = omega arith
 
-  pub bad-next : i < k * s → progressFault part b q (n - q) ≡ at-fault 5 part (at + i)
+  pub bad-next : i < k * s → progressFault part b q (n - q) ≡ faultOf 5 part (at + i)
   bad-next h = here ∙ rw (← next, lt-ltb _ _ h)
 
   module _ {p : ℕ} (good : k * s ≤ i) (marks : p ≡ firstOutside 0 2 b (at + k * s) k) where
-    pub bad-mark : p < k → progressFault part b q (n - q) ≡ at-fault 6 part (at + k * s + p)
+    pub bad-mark : p < k → progressFault part b q (n - q) ≡ faultOf 6 part (at + k * s + p)
     bad-mark h = here ∙ rw (← next, le-ltb _ _ good, ← marks, lt-ltb _ _ h)
 
     pub good-state : k ≤ p → progressFault part b q (n - q) ≡ progressFault part b (q + 1) (n - (q + 1))

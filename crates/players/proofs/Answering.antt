@@ -5,6 +5,7 @@ use mathlib.Core.List.{List}
 use Prim.Native.Nat.{ℕ, _≤_, _<_}
 use lib.ListN.{length}
 use borrow.Author.Tests.{lt-ltb, le-ltb}
+use Rattle.fdfa.specs.Enumeration.{Witness}
 use Rattle.fdfa.specs.Inclusion.{comparison}
 use Rattle.slices.specs.Refusals.{Fault, _then_, Result, unless}
 use Rattle.slices.specs.Filling.{written, filled}
@@ -13,7 +14,7 @@ use Rattle.inclusion.specs.declared.Answer.{Answer}
 use Rattle.inclusion.specs.declared.Answer.the-variants.{Absent, Found, Refused}
 use Rattle.inclusion.specs.Answers.{Said, saysOf, Answered, startFault, roomFault, cellsFor, told, prefixOf, periodOf, Meets}
 use Rattle.players.specs.Layout.{layout, compareNumbers, unlessShort, Told}
-use Rattle.players.specs.Calls.{compared, answerOf, Compared}
+use Rattle.players.specs.Calls.{Lent, compared, answerOf, Compared}
 
 short-old : {A : Type 0} (need : ℕ) (answer : List ℕ) (old new : A) → length answer < need → old ≡ unlessShort need answer old new
 short-old need answer old new h = ap (λ (t : Bool). cond t old new) (sym (lt-ltb _ _ h))
@@ -33,28 +34,32 @@ answer-known (Absent z) = refl
 answer-known (Found z) = refl
 answer-known (Refused r) = refl
 
-pub compared-short : {b c opening period answer : List ℕ} → length answer < 72 → Compared b c opening period answer opening period answer 0
-compared-short {b} {c} {opening} {period} {answer} h = record {
-  tells = told-short 72 _ answer h;
-  prefix = short-old 72 answer opening _ h;
-  cycle = short-old 72 answer period _ h;
-  meets = λ e. absurd (true≢false (sym (lt-ltb _ _ h) ∙ e));
-}
+module _ {b c : List ℕ} {before : Lent} where
+  pub compared-short : length (before .answer) < 72 → Compared b c before before 0
+  compared-short h = record {
+    tells = told-short 72 _ (before .answer) h;
+    prefix = short-old 72 (before .answer) (before .opening) _ h;
+    cycle = short-old 72 (before .answer) (before .period) _ h;
+    meets = λ e. absurd (true≢false (sym (lt-ltb _ _ h) ∙ e));
+  }
 
-pub compared-long : {b c opening period work answer opening′ period′ work′ answer′ : List ℕ} (a : Answer) → 72 ≤ length answer → length work ≡ 8192
-    → Answered (startFault b c (length work)) (comparison (decode b) (decode c)) (cellsFor b c) opening period work opening′ period′ work′ a
-    → Meets (decode b) (decode c) opening′ period′ a
-    → answer′ ≡ written (layout (compareNumbers (saysOf a))) answer
-    → Compared b c opening period answer opening′ period′ answer′ 1
-compared-long {b} {c} {opening} {period} {work} {answer} {opening′} {period′} {work′} {answer′} a h w s m e = record {
-  tells = told-long 72 _ answer h (e ∙ ap (λ (x : Result Said). written (layout (compareNumbers x)) answer) said);
-  prefix = s .prefix ∙ (ap (λ (n : ℕ). filled (fault-of n) (prefixOf (comparison (decode b) (decode c) .witness)) opening) w ∙ long-new 72 answer opening _ h);
-  cycle = s .cycle ∙ (ap (λ (n : ℕ). filled (fault-of n) (periodOf (comparison (decode b) (decode c) .witness)) period) w ∙ long-new 72 answer period _ h);
-  meets = λ _. subst (Meets (decode b) (decode c) opening′ period′) (sym (answer-known a) ∙ ap answerOf said) m;
-}
-  where
-    fault-of : ℕ → Fault
-    fault-of n = startFault b c n then roomFault (comparison (decode b) (decode c) .witness) (length opening) (length period)
+  pub compared-long : {after : Lent} {work work′ : List ℕ} (a : Answer) → 72 ≤ length (before .answer) → length work ≡ 8192
+      → Answered (startFault b c (length work)) (comparison (decode b) (decode c)) (cellsFor b c) (before .opening) (before .period) work (after .opening) (after .period) work′ a
+      → Meets (decode b) (decode c) (after .opening) (after .period) a
+      → after .answer ≡ written (layout (compareNumbers (saysOf a))) (before .answer)
+      → Compared b c before after 1
+  compared-long {after} {work} {work′} a h w s m e = record {
+    tells = told-long 72 _ (before .answer) h (e ∙ ap (λ (x : Result Said). written (layout (compareNumbers x)) (before .answer)) said);
+    prefix = s .prefix ∙ (ap (λ (n : ℕ). filled (fault-of n) (prefixOf witness) (before .opening)) w ∙ long-new 72 (before .answer) (before .opening) _ h);
+    cycle = s .cycle ∙ (ap (λ (n : ℕ). filled (fault-of n) (periodOf witness) (before .period)) w ∙ long-new 72 (before .answer) (before .period) _ h);
+    meets = λ _. subst (Meets (decode b) (decode c) (after .opening) (after .period)) (sym (answer-known a) ∙ ap answerOf said) m;
+  }
+    where
+      witness : Witness
+      witness = comparison (decode b) (decode c) .witness
 
-    said : saysOf a ≡ compared b c (length opening) (length period)
-    said = s .says ∙ ap (λ (n : ℕ). unless (fault-of n) (told (comparison (decode b) (decode c)))) w
+      fault-of : ℕ → Fault
+      fault-of n = startFault b c n then roomFault witness (length (before .opening)) (length (before .period))
+
+      said : saysOf a ≡ compared b c before
+      said = s .says ∙ ap (λ (n : ℕ). unless (fault-of n) (told (comparison (decode b) (decode c)))) w

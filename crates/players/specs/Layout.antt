@@ -31,7 +31,7 @@ partNumber Cursor = 6
 
 -- 0, accepted 1 or rejected 0, i, j, the leading state, the progress state; or number, part, place of the refusal.
 abbrev pub verdictNumbers : Result Verdict → List ℕ
-verdictNumbers (given v) = 0 ∷ mark (v .accepted) ∷ v .i ∷ v .j ∷ v .place ∷ v .end ∷ []
+verdictNumbers (given v) = 0 ∷ mark (v .accepted) ∷ v .i ∷ v .j ∷ v .state ∷ v .end ∷ []
 verdictNumbers (refused r) = r .number ∷ partNumber (r .part) ∷ r .place ∷ 0 ∷ 0 ∷ 0 ∷ []
 
 -- 0, contained 0 or missing 1, R, the lengths of opening and loop, four zeros; or number, part, place of the refusal.

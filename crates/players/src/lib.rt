@@ -6,7 +6,7 @@ ghost use mathlib.Core.Path.{_≡_};
 ghost use Prim.Native.Nat.{_*_, _≤_};
 ghost use lib.ListN.{length};
 ghost use Rattle.slices.specs.Filling.{written};
-ghost use Rattle.membership.specs.Verdict.{judged, saysOf as judgementSays};
+ghost use Rattle.membership.specs.Verdict.{verdictOf, saysOf as judgementSays};
 ghost use Rattle.inclusion.specs.Answers.{saysOf as answerSays};
 ghost use Rattle.players.specs.Layout.{partNumber, numberBytes, layout, verdictNumbers, compareNumbers, Told};
 ghost use Rattle.players.specs.Calls.{Compared};
@@ -33,14 +33,14 @@ fn verdict_numbers(judgement: Judgement) -> [u64; 6]
             accepted,
             i,
             j,
-            place,
+            state,
             end,
         } => [
             0,
             accepted as u64,
             i as u64,
             j as u64,
-            place as u64,
+            state as u64,
             end as u64,
         ],
         Judgement::Refused(r) => {
@@ -128,7 +128,8 @@ pub extern "C" fn fdfa_verdict(
     period: &[u8],
     answer: &mut [u8],
 ) -> u32
-    ensures { λ r. ⌜ Told 48 (verdictNumbers (judged (now (sheet .entry)) (now (opening .entry)) (now (period .entry)))) (now (answer .entry)) (now (answer .exit)) r ⌝ }
+    ensures { λ r. ⌜ Told 48 (verdictNumbers (verdictOf (now (sheet .entry)) (now (opening .entry)) (now (period .entry))))
+        (now (answer .entry)) (now (answer .exit)) r ⌝ }
 {
     if answer.len() < 48 {
         return 0;
@@ -149,7 +150,10 @@ pub extern "C" fn fdfa_compare(
     period: &mut [u8],
     answer: &mut [u8],
 ) -> u32
-    ensures { λ r. ⌜ Compared (now (first .entry)) (now (second .entry)) (now (opening .entry)) (now (period .entry)) (now (answer .entry)) (now (opening .exit)) (now (period .exit)) (now (answer .exit)) r ⌝ }
+    ensures { λ r. ⌜ Compared (now (first .entry)) (now (second .entry))
+        (record { opening = now (opening .entry); period = now (period .entry); answer = now (answer .entry) })
+        (record { opening = now (opening .exit); period = now (period .exit); answer = now (answer .exit) })
+        r ⌝ }
 {
     if answer.len() < 72 {
         return 0;

@@ -48,11 +48,11 @@ pub fn check(b: &[u8]) -> Ran {
     outcome(library, naive_sheet::judge(b, 0), true)
 }
 
-fn judged(accepted: bool, i: usize, j: usize, place: usize, end: usize) -> Says {
+fn judged(accepted: bool, i: usize, j: usize, state: usize, end: usize) -> Says {
     if accepted {
-        gives(ACCEPTED, i, j, place, end)
+        gives(ACCEPTED, i, j, state, end)
     } else {
-        gives(REJECTED, i, j, place, end)
+        gives(REJECTED, i, j, state, end)
     }
 }
 
@@ -63,9 +63,9 @@ fn verdict(b: &[u8], u: &[u8], v: &[u8]) -> Ran {
             accepted,
             i,
             j,
-            place,
+            state,
             end,
-        } => judged(accepted, i, j, place, end),
+        } => judged(accepted, i, j, state, end),
         Judgement::Refused(r) => refused(r),
     };
     outcome(library, naive_verdict::verdict(b, u, v), true)

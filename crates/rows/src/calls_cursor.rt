@@ -12,28 +12,28 @@ use crate::says::refused;
 use crate::total::at;
 use crate::total::wide;
 use cursor::Cursor;
-use cursor::Playing;
+use cursor::Phase;
 use cursor::Step;
 
 fn cursor_at(part: usize, pos: usize) -> Cursor {
     if part == OPENING {
         Cursor {
-            part: Playing::Prefix,
+            phase: Phase::Prefix,
             at: pos,
         }
     } else {
         Cursor {
-            part: Playing::Period,
+            phase: Phase::Period,
             at: pos,
         }
     }
 }
 
 fn part_of(c: Cursor) -> usize {
-    let part = c.part;
-    match part {
-        Playing::Prefix => OPENING,
-        Playing::Period => LOOP,
+    let phase = c.phase;
+    match phase {
+        Phase::Prefix => OPENING,
+        Phase::Period => LOOP,
     }
 }
 

@@ -4,9 +4,9 @@ use mathlib.Core.Bool.{Bool, true, false}
 use Prim.Native.Nat.{ℕ}
 use Rattle.slices.specs.declared.Part.{Part}
 use Rattle.slices.specs.declared.Refusal.{Refusal}
-use Rattle.slices.specs.Refusals.{Fault, sound, fault, _then_, when, Result, given, refused, unless}
+use Rattle.slices.specs.Refusals.{Fault, sound, fault, faultOf, _then_, when, Result, given, refused, unless}
 
-pub when-fails : {t : Bool} (number : ℕ) (part : Part) (place : ℕ) → t ≡ true → when t number part place ≡ fault (record { number = number; part = part; place = place })
+pub when-fails : {t : Bool} (number : ℕ) (part : Part) (place : ℕ) → t ≡ true → when t number part place ≡ faultOf number part place
 when-fails number part place e = ap (λ (t : Bool). when t number part place) e
 
 pub when-passes : {t : Bool} (number : ℕ) (part : Part) (place : ℕ) → t ≡ false → when t number part place ≡ sound

@@ -8,7 +8,7 @@ use lib.Dec.{ltb, leb}
 use lib.ListN.{getD}
 use borrow.Author.Tests.{lt-ltb, le-ltb, lt-leb, ltb-false, leb-false}
 use Rattle.slices.specs.declared.Part.{Part}
-use Rattle.slices.specs.Refusals.{sound, fault, when}
+use Rattle.slices.specs.Refusals.{sound, faultOf, when}
 use Rattle.slices.specs.Scans.{outside, firstOutside, scan}
 use Rattle.slices.proofs.Extremes.{least-before}
 use Rattle.slices.proofs.Refusals.{when-fails, when-passes}
@@ -39,7 +39,7 @@ all-inside low limit b at count h k l =
     by false e = inside low limit (getD b (at + k) 0) e
 
 module _ (number : ℕ) (part : Part) (low limit : ℕ) (b : List ℕ) (at count i : ℕ) (stops : i ≡ firstOutside low limit b at count) where
-  pub scan-fails : i < count → scan number part low limit b at count ≡ fault (record { number = number; part = part; place = at + i })
+  pub scan-fails : i < count → scan number part low limit b at count ≡ faultOf number part (at + i)
   scan-fails h =
       ap (λ (x : ℕ). when (ltb x count) number part (at + x)) (sym stops) ∙ when-fails number part (at + i) (lt-ltb i count h)
 

@@ -10,6 +10,10 @@ pub data Fault : Type 0 where
   sound : Fault
   fault : Refusal → Fault
 
+-- The refusal with a number, part and place.
+abbrev pub faultOf : ℕ → Part → ℕ → Fault
+faultOf number part place = fault (record { number = number; part = part; place = place })
+
 infixr 30 _then_
 -- The tests of a call in their order: the first that is met is the refusal.
 abbrev pub _then_ : Fault → Fault → Fault
@@ -18,7 +22,7 @@ fault r then g = fault r
 
 -- A row of the table: met when the test holds, with its number, part and place.
 abbrev pub when : Bool → ℕ → Part → ℕ → Fault
-when true number part place = fault (record { number = number; part = part; place = place })
+when true number part place = faultOf number part place
 when false number part place = sound
 
 -- What a call says: its answer, or the refusal.

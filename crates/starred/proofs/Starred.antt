@@ -13,7 +13,7 @@ use Rattle.slices.specs.Tables.{tab, rows, sum}
 use Rattle.packed.specs.Layout.{decode, progressAt}
 use Rattle.slices.specs.Scans.{firstOutside}
 use Rattle.packed.specs.Faults.{progressFault, headerFault, tablesFault, sheetFault}
-use Rattle.membership.specs.Verdict.{lassoFault, judged}
+use Rattle.membership.specs.Verdict.{lassoFault, verdictOf}
 use Rattle.cursor.specs.declared.Cursor.{Cursor}
 use Rattle.cursor.specs.Walking.{startOf, nextOf, stepped, moved}
 use Rattle.boolean.specs.Operations.{complementBytes, intersectionBytes}
@@ -38,7 +38,7 @@ e = 1 ∷ 3 ∷ 1 ∷ 1 ∷ 1 ∷ 1 ∷ 2 ∷ 1 ∷ 0 ∷ 0 ∷ 0 ∷ 1 ∷ 0 �
 pub data Row : Type 0 where
   verdict : (sheet u v : List ℕ) → (accepted : Bool) → Row
   closing : (sheet u v : List ℕ) → (i j : ℕ) (accepted : Bool) → Row
-  placed : (sheet u v : List ℕ) → (i j place : ℕ) (accepted : Bool) → Row
+  placed : (sheet u v : List ℕ) → (i j state : ℕ) (accepted : Bool) → Row
   intersected : (first second u v : List ℕ) → (accepted accepted-by-first : Bool) → Row
   complemented : (sheet : List ℕ) → (result : List ℕ) → Row
   compared : (first second : List ℕ) → (reached : ℕ) → Witness → Row
@@ -57,10 +57,10 @@ Plays c u v (a ∷ l) = (stepped c u v ≡ moved a (nextOf c u v)) × Plays (nex
 
 -- What a row says of the definitions.
 abbrev pub Holds : Row → Type 0
-Holds (verdict sheet u v ok) = Gives (judged sheet u v) (λ w. w .accepted ≡ ok)
-Holds (closing sheet u v i j ok) = Gives (judged sheet u v) (λ w. (w .i ≡ i) × (w .j ≡ j) × (w .accepted ≡ ok))
-Holds (placed sheet u v i j q ok) = Gives (judged sheet u v) (λ w. (w .i ≡ i) × (w .j ≡ j) × (w .place ≡ q) × (w .accepted ≡ ok))
-Holds (intersected x y u v ok first) = Gives (judged (intersectionBytes x y) u v) (λ w. w .accepted ≡ ok) × Gives (judged x u v) (λ w. w .accepted ≡ first)
+Holds (verdict sheet u v ok) = Gives (verdictOf sheet u v) (λ w. w .accepted ≡ ok)
+Holds (closing sheet u v i j ok) = Gives (verdictOf sheet u v) (λ w. (w .i ≡ i) × (w .j ≡ j) × (w .accepted ≡ ok))
+Holds (placed sheet u v i j q ok) = Gives (verdictOf sheet u v) (λ w. (w .i ≡ i) × (w .j ≡ j) × (w .state ≡ q) × (w .accepted ≡ ok))
+Holds (intersected x y u v ok first) = Gives (verdictOf (intersectionBytes x y) u v) (λ w. w .accepted ≡ ok) × Gives (verdictOf x u v) (λ w. w .accepted ≡ first)
 Holds (complemented sheet r) = complementBytes sheet ≡ r
 Holds (compared x y r w) = (comparison (decode x) (decode y) .reached ≡ r) × (comparison (decode x) (decode y) .witness ≡ w)
 Holds (emptied sheet w) = emptiness (decode sheet) .witness ≡ w

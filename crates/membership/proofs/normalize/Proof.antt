@@ -1,26 +1,27 @@
 -- `membership::normalize` meets its contract: the states so far are noted, and the first that comes again ends it. Assumes nothing.
-use mathlib.Core.Path.{_≡_, ap, sym, subst, _∙_}
+use mathlib.Core.Path.{_≡_, ap, sym, _∙_}
 use mathlib.Core.List.{List}
 use Prim.Native.Nat.{ℕ, _+_, _*_, _-_, _≤_, _<_}
 use native.Mathlib.Omega.{arith}
 use denote.Ref.{now}
-use lib.ListN.{length, getD, set}
+use lib.ListN.{length, getD}
+use borrow.Author.Needs.{needs}
 use Rattle.fdfa.specs.Words.{Over}
-use Rattle.fdfa.specs.Family.{walk}
-use Rattle.fdfa.specs.Normalization.{returnFrom, returning}
-use Rattle.fdfa.proofs.Words.{over-turns, walk-closed, walk-turn}
-use Rattle.fdfa.proofs.Normal.{turns-follow}
-use Rattle.packed.specs.Layout.{letterCount, stateCount, leadingAt, tableStep}
+use Rattle.fdfa.specs.Family.{Fdfa, walk}
+use Rattle.fdfa.specs.Normalization.{returnFrom, returning, after}
+use Rattle.fdfa.proofs.Words.{turns-one}
+use Rattle.fdfa.proofs.Normal.{after-add, after-none, follows, inside}
+use Rattle.packed.specs.Layout.{letterCount, stateCount, leadingAt, tableStep, decode}
 use Rattle.packed.specs.Columns.{columnStep, Walkable}
 use Rattle.packed.proofs.Reading.{length-columns, lead-fits, lead-walks}
-use Rattle.membership.specs.Verdict.{turning}
+use Rattle.packed.proofs.Soundness.{valid-packable}
 use Rattle.membership.proofs.Seen.{Seen, seen-none, room, seen-more, seen-returns}
-use borrow.Author.Needs.{needs}
 use Rattle.membership.proofs.normalize.Statement.{statement}
 use Rattle.membership.proofs.normalize.Tie as tie
 
 abbrev Inv-loop : tie.InvT-loop
-Inv-loop sheet at letters states prefix period table seen₀ q₀ t₀ seen q t = Seen (turning sheet prefix period) seen t × (t ≤ stateCount sheet) × (q ≡ turning sheet prefix period t)
+Inv-loop sheet at letters states prefix period table seen₀ q₀ t₀ seen q t =
+    Seen (after (decode sheet) prefix period) seen t × (t ≤ stateCount sheet) × (q ≡ after (decode sheet) prefix period t)
 
 abbrev μ-loop : tie.MeasureT-loop
 μ-loop sheet at letters states prefix period table seen₀ q₀ t₀ seen q t = stateCount sheet - t
@@ -28,32 +29,35 @@ abbrev μ-loop : tie.MeasureT-loop
 abbrev entry : tie.At-loop Inv-loop μ-loop → tie.Start Inv-loop μ-loop
 entry c = c .before .before .before .before .before .before .before
 
+abbrev family : tie.At-loop Inv-loop μ-loop → Fdfa
+family c = decode (now (entry c .args .sheet))
+
+-- the leading states after the prefix and 0, 1, .. turns
 abbrev seq : tie.At-loop Inv-loop μ-loop → ℕ → ℕ
-seq c = turning (now (entry c .args .sheet)) (now (entry c .args .prefix)) (now (entry c .args .period))
+seq c = after (family c) (now (entry c .args .prefix)) (now (entry c .args .period))
 
-within : (c : tie.At-loop Inv-loop μ-loop) (t : ℕ) → seq c t < stateCount (now (entry c .args .sheet))
-within c t =
-    let p = entry c .pre .0 in
-    walk-closed (p .0 .leads) (walk-closed (p .0 .leads) (p .0 .header .some-states) (p .1 .prefix)) (over-turns t (p .1 .period))
+within : (c : tie.At-loop Inv-loop μ-loop) (t : ℕ) → seq c t < family c .states
+within c = let p = entry c .pre .0 in inside (family c) (valid-packable _ (p .0) .complete) _ _ (p .1)
 
-few : (c : tie.At-loop Inv-loop μ-loop) → stateCount (now (entry c .args .sheet)) ≤ 32
+few : (c : tie.At-loop Inv-loop μ-loop) → family c .states ≤ 32
 few c = entry c .pre .0 .0 .header .few-states
 
 state-few : (c : tie.At-loop Inv-loop μ-loop) → c .loop .q < 32
 state-few c = omega (arith, c .loop .inv .2, within c (c .loop .t), few c)
 
--- what the table has for the present state
-noted : (c : tie.At-loop Inv-loop μ-loop) → getD (c .loop .seen) (c .loop .q) 0 ≡ getD (c .loop .seen) (seq c (c .loop .t)) 0
-noted c = ap (λ (p : ℕ). getD (c .loop .seen) p 0) (c .loop .inv .2)
+left : (c : tie.In-loop Inv-loop μ-loop) → c .before .loop .t < family (c .before) .states
+left c = let i = c .before in room (seq i) _ (within i) (few i) _ _ (i .loop .inv .0) (i .loop .inv .2) (c .loop-test .taken)
 
-left : (c : tie.In-loop Inv-loop μ-loop) → c .before .loop .t < stateCount (now (entry (c .before) .args .sheet))
-left c = let i = c .before in room (seq i) _ (within i) (few i) _ _ (i .loop .inv .0) (sym (noted i) ∙ c .loop-test .taken)
-
-found : (c : tie.After-loop Inv-loop μ-loop) → let i = c .before in let n = stateCount (now (entry i .args .sheet)) in let x = getD (i .loop .seen) (seq i (i .loop .t)) 0 in
-    (1 ≤ x) × (x - 1 ≤ i .loop .t) × (x - 1 ≡ returning n (seq i)) × (i .loop .t - (x - 1) ≡ returnFrom n (seq i) (x - 1)) × (seq i (i .loop .t) ≡ seq i (x - 1))
+found : (c : tie.After-loop Inv-loop μ-loop) → let i = c .before in let n = family i .states in let x = getD (i .loop .seen) (i .loop .q) 0 in
+    (1 ≤ x) × (x - 1 ≤ i .loop .t) × (x - 1 ≡ returning n (seq i)) × (i .loop .t - (x - 1) ≡ returnFrom n (seq i) (returning n (seq i))) × (i .loop .q ≡ seq i (returning n (seq i)))
 found c =
     let i = c .before in
-    seen-returns (seq i) _ (within i) (few i) _ _ (i .loop .inv .0) (turns-follow _ _ _) (λ e. c .loop-test .left (noted i ∙ e))
+    let p = entry i .pre .0 in
+    seen-returns (seq i) _ (within i) (few i) _ _ (i .loop .inv .0) (i .loop .inv .2) (follows (family i) (valid-packable _ (p .0) .complete) _ _ (p .1)) (c .loop-test .left)
+
+-- one turn more
+after-next : (F : Fdfa) (u v : List ℕ) (t : ℕ) {q : ℕ} → q ≡ after F u v t → walk (F .step) q v ≡ after F u v (t + 1)
+after-next F u v t e = ap (λ (q : ℕ). walk (F .step) q v) e ∙ sym (after-add F u v t 1 ∙ ap (walk (F .step) (after F u v t)) (turns-one v))
 
 -- the table by letter: its length, and how it is walked
 long : (c : tie.After-columns Inv-loop μ-loop) → length (c .columns .result) ≡ 1024
@@ -88,8 +92,10 @@ walk-requires c κs =
 
 loop-holds : tie.Need-loop-holds Inv-loop μ-loop
 loop-holds c =
-    let p = c .before .before .before .before .before .before .pre .0 in
-    (seen-none _, search needs, c .walk .ensures ∙ walks (c .before .before) 0 (p .0 .header .some-states) (p .1 .prefix) .1)
+    let s = c .before .before .before .before .before .before in
+    let p = s .pre .0 in
+    let first = sym (after-none (decode (now (s .args .sheet))) (now (s .args .prefix)) (now (s .args .period))) in
+    (seen-none _, search needs, c .walk .ensures ∙ (walks (c .before .before) 0 (p .0 .header .some-states) (p .1 .prefix) .1 ∙ first))
 
 mul-loop : tie.Need-mul-loop Inv-loop μ-loop
 mul-loop c = omega (arith, state-few c)
@@ -122,13 +128,10 @@ loop-again : tie.Need-loop-again Inv-loop μ-loop
 loop-again c =
     let d = c .before .before in
     let i = d .before in
-    let t = i .loop .t in
-    let q = i .loop .inv .2 in
-    let b = now (entry i .args .sheet) in (
-      subst (λ (x : ℕ). Seen (seq i) (set (i .loop .seen) x (t + 1)) (t + 1)) (sym q) (seen-more (seq i) _ (within i) (few i) _ _ (i .loop .inv .0) (sym (noted i) ∙ d .loop-test .taken)),
+    let a = entry i .args in (
+      seen-more (seq i) _ (within i) (few i) _ _ (i .loop .inv .0) (i .loop .inv .2) (d .loop-test .taken),
       omega (arith, left d),
-      c .walk2 .ensures
-          ∙ (turn d .1 ∙ (ap (λ (p : ℕ). walk (tableStep b (leadingAt b) (letterCount b)) p (now (entry i .args .period))) q ∙ walk-turn _ _ _ t)),
+      c .walk2 .ensures ∙ (turn d .1 ∙ after-next (family i) (now (a .prefix)) (now (a .period)) (i .loop .t) (i .loop .inv .2)),
     )
 
 mul-i : tie.Need-mul-i Inv-loop μ-loop
@@ -138,21 +141,13 @@ array-read-i : tie.Need-array-read-i Inv-loop μ-loop
 array-read-i c = state-few (c .before)
 
 sub-i : tie.Need-sub-i Inv-loop μ-loop
-sub-i c = omega (arith, noted (c .before), found c .0)
+sub-i c = omega (arith, found c .0)
 
 sub-t24 : tie.Need-sub-t24 Inv-loop μ-loop
-sub-t24 c = omega (arith, noted (c .before), found c .1)
+sub-t24 c = omega (arith, found c .1)
 
 returns : tie.Need-returns Inv-loop μ-loop
-returns c =
-    let i = c .before in
-    let f = found c in
-    let n = stateCount (now (entry i .args .sheet)) in
-    record {
-      preperiod = ap (λ (x : ℕ). x - 1) (noted i) ∙ f .2;
-      period = ap (λ (x : ℕ). i .loop .t - (x - 1)) (noted i) ∙ (f .3 ∙ ap (λ (x : ℕ). returnFrom n (seq i) (x - 1)) (sym (noted i)));
-      at = i .loop .inv .2 ∙ (f .4 ∙ ap (λ (x : ℕ). seq i (x - 1)) (sym (noted i)));
-    }
+returns c = let f = found c in λ k. record { i = f .2 k; j = f .3 k; state = f .4 k }
 
 pub normalize-spec : {M : Type 1} → statement M
 normalize-spec =

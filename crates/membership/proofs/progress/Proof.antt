@@ -23,11 +23,11 @@ Inv-loop sheet letters q period count at k table end₀ t₀ end t = (t ≤ coun
 abbrev μ-loop : tie.MeasureT-loop
 μ-loop sheet letters q period count at k table end₀ t₀ end t = count - t
 
-turned : (f : ℕ → ℕ → ℕ) (v : List ℕ) (e t : ℕ) → e ≡ walk f 0 (turns v t) → walk f e v ≡ walk f 0 (turns v (t + 1))
-turned f v e t d = ap (λ (q : ℕ). walk f q v) d ∙ walk-turn f 0 v t
+one-more : (f : ℕ → ℕ → ℕ) (v : List ℕ) (e t : ℕ) → e ≡ walk f 0 (turns v t) → walk f e v ≡ walk f 0 (turns v (t + 1))
+one-more f v e t d = ap (λ (q : ℕ). walk f q v) d ∙ walk-turn f 0 v t
 
-turned-all : (f : ℕ → ℕ → ℕ) (v : List ℕ) (t count : ℕ) → t ≤ count → count ≤ t → walk f 0 (turns v t) ≡ walk f 0 (turns v count)
-turned-all f v t count h l = let e : t ≡ count = omega arith in ap (λ (n : ℕ). walk f 0 (turns v n)) e
+all-turns : (f : ℕ → ℕ → ℕ) (v : List ℕ) (t count : ℕ) → t ≤ count → count ≤ t → walk f 0 (turns v t) ≡ walk f 0 (turns v count)
+all-turns f v t count h l = let e : t ≡ count = omega arith in ap (λ (n : ℕ). walk f 0 (turns v n)) e
 
 abbrev start : tie.After-size Inv-loop μ-loop → tie.Start Inv-loop μ-loop
 start c = c .before .before .before .before
@@ -105,7 +105,7 @@ loop-again : tie.Need-loop-again Inv-loop μ-loop
 loop-again c =
     let i = c .before .before .before in
     let s = start (sized i) .args in
-    (search needs, c .walk .ensures ∙ (turn i .1 ∙ turned (decode (now (s .sheet)) .progress (s .q)) (now (s .period)) _ (i .loop .t) (i .loop .inv .1)))
+    (search needs, c .walk .ensures ∙ (turn i .1 ∙ one-more (decode (now (s .sheet)) .progress (s .q)) (now (s .period)) _ (i .loop .t) (i .loop .inv .1)))
 
 mul-marks : tie.Need-mul-marks Inv-loop μ-loop
 mul-marks c = omega (arith, product-few (sized (c .before)))
@@ -120,10 +120,10 @@ returns : tie.Need-returns Inv-loop μ-loop
 returns c =
     let i = c .before .before in
     let s = start (sized i) .args in
-    record {
-      stands = i .loop .inv .1 ∙ turned-all (decode (now (s .sheet)) .progress (s .q)) (now (s .period)) (i .loop .t) (s .count) (i .loop .inv .0) (c .before .loop-test .left);
-      says = c .is-marked .ensures ∙ ap (λ (m : ℕ). eqb (getD (now (s .sheet)) (m + i .loop .end) 0) 1) (marks (sized i));
-    }
+    let F = decode (now (s .sheet)) in
+    let e = i .loop .inv .1 ∙ all-turns (F .progress (s .q)) (now (s .period)) (i .loop .t) (s .count) (i .loop .inv .0) (c .before .loop-test .left) in
+    let m = c .is-marked .ensures ∙ ap (λ (m : ℕ). eqb (getD (now (s .sheet)) (m + i .loop .end) 0) 1) (marks (sized i)) in
+    λ k. record { end = e k; accepted = (m ∙ ap (F .accepting (s .q)) e) k }
 
 pub progress-spec : {M : Type 1} → statement M
 progress-spec =

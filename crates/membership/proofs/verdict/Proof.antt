@@ -6,28 +6,32 @@ use native.Mathlib.Omega.{arith}
 use denote.Enum.Declared
 use denote.Ref.{now}
 use Rattle.slices.specs.declared.Refusal.{Refusal}
-use Rattle.fdfa.specs.Family.{Lasso}
+use Rattle.fdfa.specs.Family.{Fdfa, Lasso}
+use Rattle.fdfa.specs.Normalization.{preperiod}
 use Rattle.fdfa.specs.Acceptance.{verdict}
 use Rattle.slices.specs.Refusals.{sound, given, refused, unless}
 use Rattle.slices.proofs.Refusals.{refuses, gives, was-given, was-refused}
-use Rattle.fdfa.proofs.Words.{walk-closed, over-turns}
+use Rattle.fdfa.proofs.Normal.{inside}
 use Rattle.packed.specs.declared.Sizes.{Sizes}
 use Rattle.packed.specs.Layout.{letterCount, stateCount, leadingAt, decode, Valid}
 use Rattle.packed.specs.Faults.{sizesOf}
+use Rattle.packed.proofs.Soundness.{valid-packable}
 use Rattle.membership.specs.declared.Checked.{Checked}
 use Rattle.membership.specs.declared.Checked.the-variants as checked
 use Rattle.membership.specs.declared.Judgement.{Judgement}
 use Rattle.membership.specs.declared.Judgement.the-variants as judgement
-use Rattle.membership.specs.Verdict.{lassoFault, judged, saysOf, checkSays, turning}
+use Rattle.membership.specs.Verdict.{lassoFault, verdictOf, saysOf, checkSays}
+use Rattle.membership.specs.Steps.{endedOf}
+use Rattle.membership.specs.declared.Normalized.{Normalized}
 use Rattle.membership.proofs.Checked as checked-type
-use Rattle.membership.proofs.Judging.{lasso-valid, verdict-found}
+use Rattle.membership.proofs.Judging.{lasso-valid}
 use borrow.Author.Needs.{needs}
 use Rattle.membership.proofs.verdict.Statement.{statement}
 use Rattle.membership.proofs.verdict.Tie as tie
 
 -- a check that refused is the answer
 passed-on : (b u v : List ℕ) (k : Checked) (r : Judgement) → Declared.tagOf checked-type.the-type k ≡ 1 → ((x : Refusal) → k ≡ checked.Refused x → r ≡ judgement.Refused x)
-    → checkSays k ≡ unless (lassoFault b u v) (sizesOf b) → saysOf r ≡ judged b u v
+    → checkSays k ≡ unless (lassoFault b u v) (sizesOf b) → saysOf r ≡ verdictOf b u v
 passed-on b u v (checked.Lasso z) r tag h e = absurd (omega arith)
 passed-on b u v (checked.Refused x) r tag h e =
     ap saysOf (h x refl) ∙ refuses (verdict (decode b) u v) (was-refused (lassoFault b u v) (sizesOf b) e)
@@ -59,13 +63,14 @@ at c = ap (λ (z : Sizes). 2 + z .states) (good c .1)
 states : (c : tie.After-checked) → c .checked .given .0 .0 .states ≡ stateCount (sheet c)
 states c = ap (λ (z : Sizes). z .states) (good c .1)
 
-place-below : (c : tie.After-normalize) → c .normalize .result .place < stateCount (sheet (c .before .before .before))
-place-below c =
+abbrev family : tie.After-checked → Fdfa
+family c = decode (sheet c)
+
+state-below : (c : tie.After-normalize) → c .normalize .result .state < stateCount (sheet (c .before .before .before))
+state-below c =
     let d = c .before .before .before in
-    let leads = valid d .0 .leads in
-    let l : turning (sheet d) (before d) (loop d) (c .normalize .result .i) < stateCount (sheet d) =
-    walk-closed leads (walk-closed leads (valid d .0 .header .some-states) (valid d .1 .prefix)) (over-turns (c .normalize .result .i) (valid d .1 .period)) in
-    omega (arith, c .normalize .ensures .at)
+    let n = c .normalize .ensures in
+    omega (arith, ap (λ (n : Normalized). n .state) n, inside (family d) (valid-packable _ (valid d .0) .complete) _ _ (valid d .1) (preperiod (family d) (before d) (loop d)))
 
 check-requires : tie.Need-check-requires
 check-requires c κs = search needs
@@ -92,12 +97,15 @@ normalize-requires c κs = let d = c .before .before in (valid d, (at d, letters
 
 progress-requires : tie.Need-progress-requires
 progress-requires c κs =
-    let d = c .before .before .before in ((valid d .0, valid d .1 .period, place-below c), letters d)
+    let d = c .before .before .before in ((valid d .0, valid d .1 .period, state-below c), letters d)
 
 returns-2 : tie.Need-returns-2
 returns-2 c =
     let d = c .before .before .before .before in
-    ap given (verdict-found (sheet d) (before d) (loop d) (c .before .normalize .ensures) (c .progress .ensures)) ∙ gives (verdict (decode (sheet d)) (before d) (loop d)) (good d .0)
+    let n = c .before .normalize .ensures in
+    let e = c .progress .ensures ∙ (λ k. endedOf (family d) (loop d) (n k .state) (n k .j)) in
+    (λ k. given (record { accepted = e k .accepted; i = n k .i; j = n k .j; state = n k .state; end = e k .end }))
+    ∙ gives _ (good d .0)
 
 pub verdict-spec : {M : Type 1} → statement M
 verdict-spec =

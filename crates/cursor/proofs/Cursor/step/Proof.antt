@@ -1,7 +1,7 @@
 -- `Cursor::step` meets its contract. Assumes nothing.
 use mathlib.Core.Path.{ap, _∙_}
 use denote.Ref.{now}
-use Rattle.cursor.specs.declared.Playing.the-variants.{Prefix, Period}
+use Rattle.cursor.specs.declared.Phase.the-variants.{Prefix, Period}
 use Rattle.slices.specs.declared.Refusal.{Refusal}
 use Rattle.cursor.specs.Walking.{stays}
 use Rattle.cursor.proofs.Stepping.{is-prefix, is-period, step-refused, step-passes}
@@ -34,13 +34,13 @@ returns-2 : tie.Need-returns-2
 returns-2 c =
     let d = c .before .before in
     let s = d .before .before .before .before .args in
-    c .pass .ensures ∙ step-passes (s .self) (now (s .prefix)) (now (s .period)) (d .before .if1 .left) Prefix (is-prefix (s .self .part) (d .match .keys1))
+    c .pass .ensures ∙ step-passes (s .self) (now (s .prefix)) (now (s .period)) (d .before .if1 .left) Prefix (is-prefix (s .self .phase) (d .match .keys1))
 
 returns-3 : tie.Need-returns-3
 returns-3 c =
     let d = c .before .before in
     let s = d .before .before .before .before .args in
-    c .pass2 .ensures ∙ step-passes (s .self) (now (s .prefix)) (now (s .period)) (d .before .if1 .left) Period (is-period (s .self .part) (d .match .keys2))
+    c .pass2 .ensures ∙ step-passes (s .self) (now (s .prefix)) (now (s .period)) (d .before .if1 .left) Period (is-period (s .self .phase) (d .match .keys2))
 
 pub step-spec : {M : Type 1} → statement M
 step-spec =
