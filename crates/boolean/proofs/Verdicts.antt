@@ -49,7 +49,7 @@ module _ (b : List ℕ) (valid : Valid b) where
 
   -- every verdict is reversed, turn-proof or not, and i, j, q and the end stay
   pub complement-verdict : (u v : List ℕ) → Lasso (letterCount b) u v → let w = verdict (decode b) u v in
-      verdict (decode (complementBytes b)) u v ≡ record { accepted = not (w .accepted); i = w .i; j = w .j; place = w .place; end = w .end }
+      verdict (decode (complementBytes b)) u v ≡ record { accepted = not (w .accepted); i = w .i; j = w .j; state = w .state; end = w .end }
   complement-verdict u v l = read-back (complement (decode b)) complement-packable u v l
 
 pub sizes-few : (b c : List ℕ) → widest (decode b) * widest (decode c) ≤ 32 → (p q : ℕ) → p < stateCount b → q < stateCount c → sizeOf b p * sizeOf c q ≤ 32

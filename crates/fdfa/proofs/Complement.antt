@@ -1,5 +1,5 @@
 -- The complement keeps i, j, q and the end, and reverses every verdict, turn-proof or not (002, Theorem 4.1). Assumes nothing.
-use mathlib.Core.Path.{_≡_, refl, ap}
+use mathlib.Core.Path.{_≡_, refl}
 use mathlib.Core.Bool.{not}
 use mathlib.Core.List.{List}
 use Prim.Native.Nat.{ℕ}
@@ -7,7 +7,6 @@ use Rattle.fdfa.specs.Family.{Fdfa, Complete}
 use Rattle.fdfa.specs.Normalization.{preperiod, periodCount}
 use Rattle.fdfa.specs.Acceptance.{loopState, endState, accepts}
 use Rattle.fdfa.specs.Boolean.{complement}
-use Rattle.fdfa.specs.Invariance.{TurnProof}
 
 pub complement-reverses : (F : Fdfa) (u v : List ℕ) → accepts (complement F) u v ≡ not (accepts F u v)
 complement-reverses F u v = refl
@@ -18,6 +17,3 @@ complement-keeps F u v = (refl, refl, refl, refl)
 
 pub complement-complete : (F : Fdfa) → Complete F → Complete (complement F)
 complement-complete F c = record { start = c .start; leads = c .leads; starts = c .starts; progresses = c .progresses }
-
-pub complement-turn-proof : (F : Fdfa) → TurnProof F → TurnProof (complement F)
-complement-turn-proof F t u v l a b p = ap not (t u v l a b p)

@@ -6,19 +6,19 @@ use mathlib.Core.List.{List, _++_}
 use Prim.Native.Nat.{ℕ, _*_, _/_, _%_, _≤_, _<_}
 use native.Mathlib.Nat.{mul-le-mul, mod-lt}
 use lib.ListN.{length}
-use Rattle.fdfa.specs.Words.{Over, turns}
-use Rattle.fdfa.specs.Family.{Fdfa, Complete, walk, Lasso}
+use Rattle.fdfa.specs.Words.{turns}
+use Rattle.fdfa.specs.Family.{Fdfa, Complete, Lasso}
 use Rattle.fdfa.specs.Normalization.{preperiod, periodCount, Normalized}
 use Rattle.fdfa.specs.Acceptance.{accepts}
 use Rattle.fdfa.specs.Boolean.{product}
 use Rattle.fdfa.specs.Invariance.{TurnProof}
 use Rattle.fdfa.specs.Enumeration.{absent, lasso}
-use Rattle.fdfa.specs.Inclusion.{Counterexample, Answers, none-has, normalized, counters, widest, pairs, pairStep, combinations, comparison, Accepted}
+use Rattle.fdfa.specs.Inclusion.{Counterexample, Answers, none-has, normalized, counters, widest, pairs, combinations, comparison, Accepted}
 use Rattle.slices.proofs.Tests.{and-left, and-right, both, not-of, of-not}
 use Rattle.fdfa.proofs.Normal.{normal, Normalization, normalization}
 use Rattle.fdfa.proofs.Product.{left-below, product-complete, product-parts, product-normalized, product-closing}
 use Rattle.slices.proofs.Extremes.{largest-le}
-use Rattle.fdfa.proofs.Emptiness.{answers-unique, answers-map, normalized-says, normalized-passes, same-prefix, search-answers, search-bounds}
+use Rattle.fdfa.proofs.Emptiness.{answers-unique, answers-map, normalized-says, normalized-passes, search-answers, search-bounds}
 
 -- accepted by the first and rejected by the second
 abbrev pub butNot : Bool → Bool → Bool
@@ -104,10 +104,6 @@ module _ (F G : Fdfa) (alike : F .letters ≡ G .letters) (CF : Complete F) (CG 
   -- 01's bounds: fewer than N letters, and at most N × K
   pub comparison-bounds : {u v : List ℕ} → comparison F G .witness ≡ lasso u v → (length u < pairs F G) × (length v ≤ combinations F G)
   comparison-bounds = search-bounds P CP (widest F * widest G) widest-pair (counters F G) says passes
-
-  -- whether (u, v) is a counterexample depends on u only through the pair of states that it leads to
-  pub same-pair : (u u′ v : List ℕ) → Over (F .letters) u′ → walk (pairStep F G) 0 u′ ≡ walk (pairStep F G) 0 u → Counterexample F G u v → Counterexample F G u′ v
-  same-pair u u′ v o e c = accepted-counterexample u′ v (same-prefix P CP u u′ v o e (counterexample-accepted u v c))
 
   -- where no lasso at all is accepted by the first and rejected by the second, it is contained
   pub all-contained : ((u v : List ℕ) → Lasso (F .letters) u v → accepts F u v ≡ true → accepts G u v ≡ false → ⊥) → comparison F G .witness ≡ absent

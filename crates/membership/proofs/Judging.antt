@@ -12,12 +12,13 @@ use Rattle.slices.specs.declared.Part.the-variants.{First, Opening, Loop}
 use Rattle.slices.specs.Refusals.{Fault, sound, faultOf, _then_, when}
 use Rattle.slices.specs.Scans.{firstOutside, scan}
 use Rattle.slices.proofs.Refusals.{then-left, then-right, when-sound}
+use Rattle.slices.proofs.Scans.{scan-sound, sound-scan}
 use Rattle.fdfa.specs.Words.{Over}
 use Rattle.fdfa.specs.Family.{Lasso}
 use Rattle.fdfa.proofs.Words.{letters-over, over-letter}
 use Rattle.packed.specs.Layout.{letterCount, Valid}
 use Rattle.packed.specs.Faults.{sheetFault}
-use Rattle.packed.proofs.Soundness.{sound-valid, valid-sound, scan-sound, sound-scan}
+use Rattle.packed.proofs.Soundness.{sound-valid, valid-sound}
 use Rattle.membership.specs.Verdict.{lassoFault}
 
 -- the tests after the sheet's, from what the code knows where it meets them

@@ -22,7 +22,7 @@ pub progress-next : (b : List ℕ) (q : ℕ) → progressAt b q + sizeOf b q * (
 unfolding progressAt sum
 progress-next b q = rw (add-one q) (omega arith)
 
-pub marks-next : (b : List ℕ) (q : ℕ) → marksAt b q + sizeOf b q ≡ progressAt b (q + 1)
+marks-next : (b : List ℕ) (q : ℕ) → marksAt b q + sizeOf b q ≡ progressAt b (q + 1)
 marks-next b q =
     omega (arith, progress-next b q, mul-add (sizeOf b q) (letterCount b) 1, mul-one (sizeOf b q))
 

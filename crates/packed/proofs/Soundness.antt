@@ -1,6 +1,6 @@
 -- A sheet is refused for nothing exactly if it is valid. Assumes nothing.
-use mathlib.Core.Path.{_≡_, refl, ap, sym, subst, _∙_}
-use mathlib.Core.Bool.{true, not, true≢false}
+use mathlib.Core.Path.{_≡_, refl, ap, subst, _∙_}
+use mathlib.Core.Bool.{not}
 use mathlib.Core.List.{List}
 use Prim.Native.Nat.{ℕ, zero, suc, _+_, _*_, _/_, _%_, _≤_, _<_}
 use native.Mathlib.Omega.{arith}
@@ -14,24 +14,11 @@ use Rattle.slices.specs.declared.Part.{Part}
 use Rattle.slices.specs.declared.Part.the-variants.{First, Second}
 use Rattle.fdfa.specs.Family.{Closed}
 use Rattle.slices.specs.Refusals.{Fault, sound, _then_, when}
-use Rattle.slices.proofs.Extremes.{least-none}
 use Rattle.slices.proofs.Refusals.{when-passes, passed, then-left, then-right, when-sound}
 use Rattle.packed.specs.Layout.{letterCount, stateCount, sizeOf, leadingAt, progressAt, marksAt, sheetLength, tableStep, decode, Packable, Header, Valid}
-use Rattle.slices.specs.Scans.{outside, firstOutside, scan}
+use Rattle.slices.specs.Scans.{outside, scan}
 use Rattle.packed.specs.Faults.{progressFault, headerFault, tablesFault, sheetFault, secondFault, pairFault}
-use Rattle.slices.proofs.Scans.{inside, not-outside, all-inside, scan-passes}
-
-module _ (number : ℕ) (part : Part) (low limit : ℕ) (b : List ℕ) (at count : ℕ) where
-  pub scan-sound : scan number part low limit b at count ≡ sound → (k : ℕ) → k < count → (low ≤ getD b (at + k) 0) × (getD b (at + k) 0 < limit)
-  scan-sound e = all-inside low limit b at count (ltb-false _ count (when-sound _ number part _ e))
-
-  pub sound-scan : ((k : ℕ) → k < count → (low ≤ getD b (at + k) 0) × (getD b (at + k) 0 < limit)) → scan number part low limit b at count ≡ sound
-  unfolding firstOutside
-  sound-scan h =
-      scan-passes number part low limit b at count count (sym (least-none count (λ i. outside low limit (getD b (at + i) 0)) none)) (omega arith)
-    where
-      none : (k : ℕ) → k < count → outside low limit (getD b (at + k) 0) ≡ true → ⊥
-      none k l e = true≢false (sym e ∙ not-outside low limit (getD b (at + k) 0) (h k l .0) (h k l .1))
+use Rattle.slices.proofs.Scans.{inside, not-outside, scan-sound, sound-scan}
 
 -- The two tables of a leading state.
 record Good (b : List ℕ) (q : ℕ) : Type 0 where

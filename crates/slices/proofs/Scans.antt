@@ -1,17 +1,17 @@
 -- What a scan says, from the place that it stopped at. Assumes nothing.
-use mathlib.Core.Path.{_≡_, refl, ap, sym, _∙_}
+use mathlib.Core.Path.{_≡_, refl, sym, _∙_}
 use mathlib.Core.Bool.{Bool, true, false, _||_, true≢false}
 use mathlib.Core.List.{List}
 use Prim.Native.Nat.{ℕ, _+_, _≤_, _<_}
 use native.Mathlib.Omega.{arith}
 use lib.Dec.{ltb, leb}
 use lib.ListN.{getD}
-use borrow.Author.Tests.{lt-ltb, le-ltb, lt-leb, ltb-false, leb-false}
+use borrow.Author.Tests.{le-ltb, lt-leb, ltb-false, leb-false}
 use Rattle.slices.specs.declared.Part.{Part}
-use Rattle.slices.specs.Refusals.{sound, faultOf, when}
+use Rattle.slices.specs.Refusals.{sound}
 use Rattle.slices.specs.Scans.{outside, firstOutside, scan}
-use Rattle.slices.proofs.Extremes.{least-before}
-use Rattle.slices.proofs.Refusals.{when-fails, when-passes}
+use Rattle.slices.proofs.Extremes.{least-before, least-none}
+use Rattle.slices.proofs.Refusals.{when-sound}
 
 or-left : (s t : Bool) → s || t ≡ false → s ≡ false
 or-left true t e = e
@@ -38,11 +38,14 @@ all-inside low limit b at count h k l =
     by true e = absurd (least-before count (λ i. outside low limit (getD b (at + i) 0)) k (omega arith) e)
     by false e = inside low limit (getD b (at + k) 0) e
 
-module _ (number : ℕ) (part : Part) (low limit : ℕ) (b : List ℕ) (at count i : ℕ) (stops : i ≡ firstOutside low limit b at count) where
-  pub scan-fails : i < count → scan number part low limit b at count ≡ faultOf number part (at + i)
-  scan-fails h =
-      ap (λ (x : ℕ). when (ltb x count) number part (at + x)) (sym stops) ∙ when-fails number part (at + i) (lt-ltb i count h)
+-- a scan refuses nothing exactly if all bytes are inside
+module _ (number : ℕ) (part : Part) (low limit : ℕ) (b : List ℕ) (at count : ℕ) where
+  pub scan-sound : scan number part low limit b at count ≡ sound → (k : ℕ) → k < count → (low ≤ getD b (at + k) 0) × (getD b (at + k) 0 < limit)
+  scan-sound e = all-inside low limit b at count (ltb-false _ count (when-sound _ number part _ e))
 
-  pub scan-passes : count ≤ i → scan number part low limit b at count ≡ sound
-  scan-passes h =
-      ap (λ (x : ℕ). when (ltb x count) number part (at + x)) (sym stops) ∙ when-passes number part (at + i) (le-ltb i count h)
+  pub sound-scan : ((k : ℕ) → k < count → (low ≤ getD b (at + k) 0) × (getD b (at + k) 0 < limit)) → scan number part low limit b at count ≡ sound
+  unfolding firstOutside
+  sound-scan h = rw (least-none count (λ i. outside low limit (getD b (at + i) 0)) none, le-ltb count count (omega arith))
+    where
+      none : (k : ℕ) → k < count → outside low limit (getD b (at + k) 0) ≡ true → ⊥
+      none k l e = true≢false (sym e ∙ not-outside low limit (getD b (at + k) 0) (h k l .0) (h k l .1))
