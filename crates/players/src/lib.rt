@@ -11,6 +11,11 @@ ghost use Rattle.inclusion.specs.Answers.{saysOf as answerSays};
 ghost use Rattle.players.specs.Layout.{partNumber, numberBytes, layout, verdictNumbers, compareNumbers, Told};
 ghost use Rattle.players.specs.Calls.{Compared};
 
+// What a call returns: whether the answer slice was long enough, and the answer written.
+const SHORT: u32 = 0;
+
+const WRITTEN: u32 = 1;
+
 fn part_number(part: Part) -> u64
     ensures { λ r. ⌜ r ≡ partNumber part ⌝ }
 {
@@ -132,12 +137,12 @@ pub extern "C" fn fdfa_verdict(
         (now (answer .entry)) (now (answer .exit)) r ⌝ }
 {
     if answer.len() < 48 {
-        return 0;
+        return SHORT;
     }
     let judgement = membership::verdict(sheet, opening, period);
     let numbers = verdict_numbers(judgement);
     put_numbers(&numbers, answer);
-    1
+    WRITTEN
 }
 
 // The comparison of two sheets with 8,192 cells of its own; the first counter-show goes to `opening` and `period`. Answers
@@ -156,11 +161,11 @@ pub extern "C" fn fdfa_compare(
         r ⌝ }
 {
     if answer.len() < 72 {
-        return 0;
+        return SHORT;
     }
     let mut work = [0u64; 8192];
     let compared = inclusion::compare(first, second, opening, period, &mut work);
     let numbers = compare_numbers(compared);
     put_numbers(&numbers, answer);
-    1
+    WRITTEN
 }
