@@ -15,6 +15,9 @@ pub after-add : (F : Fdfa) (u v : List ℕ) (a k : ℕ) → after F u v (a + k) 
 after-add F u v a k =
     ap (walk (F .step) 0) (sym (turns-on u v a k)) ∙ walk-append (F .step) 0 (u ++ turns v a) (turns v k)
 
+pub after-next : (F : Fdfa) (u v : List ℕ) (t : ℕ) {q : ℕ} → q ≡ after F u v t → walk (F .step) q v ≡ after F u v (t + 1)
+after-next F u v t e = ap (λ (q : ℕ). walk (F .step) q v) e ∙ sym (after-add F u v t 1 ∙ ap (walk (F .step) (after F u v t)) (turns-one v))
+
 pub after-none : (F : Fdfa) (u v : List ℕ) → after F u v 0 ≡ walk (F .step) 0 u
 after-none F u v = ap (walk (F .step) 0) (append-nil u)
 

@@ -16,6 +16,14 @@ pub record Seen (g : ℕ → ℕ) (seen : List ℕ) (t : ℕ) : Type 0 where
   pub noted : (a : ℕ) → a < t → getD seen (g a) 0 ≡ a + 1
   pub only : (p : ℕ) → (getD seen p 0 ≡ 0 → ⊥) → (a : ℕ) × (a < t) × (getD seen p 0 ≡ a + 1) × (g a ≡ p)
 
+-- What the first state that was there before shows: x is what the table has for that state q, met again at t.
+pub record Returned (g : ℕ → ℕ) (n t x q : ℕ) : Type 0 where
+  pub some : 1 ≤ x
+  pub upto : x - 1 ≤ t
+  pub first : x - 1 ≡ returning n g
+  pub second : t - (x - 1) ≡ returnFrom n g (returning n g)
+  pub stands : q ≡ g (returning n g)
+
 getD-zeros : (n p : ℕ) → getD {A = ℕ} (replicate n 0) p 0 ≡ 0
 getD-zeros zero p = refl
 getD-zeros (suc n) zero = refl
@@ -79,11 +87,14 @@ module _ (g : ℕ → ℕ) (n : ℕ) (inside : (t : ℕ) → g t < n) (few : n �
                 let o = s .only p (λ z. h (d ∙ z)) in
                 (o .0, omega (arith, o .1), d ∙ o .2, o .3)
 
-  -- the first state that was there before shows the preperiod and the period
-  pub seen-returns : Follows g → (getD seen q 0 ≡ 0 → ⊥)
-      → (1 ≤ getD seen q 0) × (getD seen q 0 - 1 ≤ t) × (getD seen q 0 - 1 ≡ returning n g) × (t - (getD seen q 0 - 1) ≡ returnFrom n g (returning n g)) × (q ≡ g (returning n g))
-  seen-returns follows old =
-      (omega (arith, o .2), omega (arith, o .1, o .2), a-is ∙ sym (r .0), ap (λ (x : ℕ). t - x) a-is ∙ sym (r .1), sym (o .3) ∙ ap g (sym (r .0)))
+  pub seen-returns : Follows g → (getD seen q 0 ≡ 0 → ⊥) → Returned g n t (getD seen q 0) q
+  seen-returns follows old = record {
+    some = omega (arith, o .2);
+    upto = omega (arith, o .1, o .2);
+    first = a-is ∙ sym (r .0);
+    second = ap (λ (x : ℕ). t - x) a-is ∙ sym (r .1);
+    stands = sym (o .3) ∙ ap g (sym (r .0));
+  }
     where
       o : (a : ℕ) × (a < t) × (getD seen q 0 ≡ a + 1) × (g a ≡ q)
       o = s .only q old

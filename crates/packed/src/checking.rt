@@ -150,7 +150,8 @@ pub fn check_pair(first: &[u8], second: &[u8]) -> Validities
 }
 
 fn check_second(z: Sizes, second: &[u8]) -> Validities
-    ensures { λ r. ⌜ pairSays r ≡ unless (secondFault (z .letters) (now (second .entry))) (record { first = z; second = sizesOf (now (second .entry)) }) ⌝ }
+    ensures { λ r. ⌜ pairSays r ≡ unless (secondFault (z .letters) (now (second .entry)))
+        (record { first = z; second = sizesOf (now (second .entry)) }) ⌝ }
 {
     let two = check(second, Part::Second);
     match two {

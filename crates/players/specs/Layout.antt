@@ -12,6 +12,7 @@ use Rattle.slices.specs.Refusals.{Result, given, refused}
 use Rattle.slices.specs.Filling.{written}
 use Rattle.slices.specs.Tables.{tab, rows}
 use Rattle.packed.specs.Layout.{mark}
+use Rattle.inclusion.specs.declared.Comparison.{Comparison}
 use Rattle.inclusion.specs.Answers.{Said}
 
 abbrev pub numberBytes : ℕ → List ℕ
@@ -35,9 +36,11 @@ verdictNumbers (given v) = 0 ∷ mark (v .accepted) ∷ v .i ∷ v .j ∷ v .sta
 verdictNumbers (refused r) = r .number ∷ partNumber (r .part) ∷ r .place ∷ 0 ∷ 0 ∷ 0 ∷ []
 
 -- 0, contained 0 or missing 1, R, the lengths of opening and loop, four zeros; or number, part, place of the refusal.
+abbrev pub givenNumbers : ℕ → Comparison → List ℕ
+givenNumbers missing c = 0 ∷ missing ∷ c .reached ∷ c .prefix ∷ c .period ∷ 0 ∷ 0 ∷ 0 ∷ 0 ∷ []
+
 abbrev pub compareNumbers : Result Said → List ℕ
-compareNumbers (given s) =
-    0 ∷ cond (s .none) 0 1 ∷ s .record-of .reached ∷ s .record-of .prefix ∷ s .record-of .period ∷ 0 ∷ 0 ∷ 0 ∷ 0 ∷ []
+compareNumbers (given s) = givenNumbers (cond (s .none) 0 1) (s .record-of)
 compareNumbers (refused r) = r .number ∷ partNumber (r .part) ∷ r .place ∷ 0 ∷ 0 ∷ 0 ∷ 0 ∷ 0 ∷ 0 ∷ []
 
 -- Where the answer slice has fewer cells than are needed nothing changes.

@@ -1,5 +1,6 @@
 // The calls for players in C: the verdict and the comparison over byte slices, the answer as numbers in one more lent slice.
 use inclusion::Answer;
+use inclusion::Comparison;
 use membership::Judgement;
 use slices::Part;
 ghost use mathlib.Core.Path.{_≡_};
@@ -8,7 +9,7 @@ ghost use lib.ListN.{length};
 ghost use Rattle.slices.specs.Filling.{written};
 ghost use Rattle.membership.specs.Verdict.{verdictOf, saysOf as judgementSays};
 ghost use Rattle.inclusion.specs.Answers.{saysOf as answerSays};
-ghost use Rattle.players.specs.Layout.{partNumber, numberBytes, layout, verdictNumbers, compareNumbers, Told};
+ghost use Rattle.players.specs.Layout.{partNumber, numberBytes, layout, verdictNumbers, givenNumbers, compareNumbers, Told};
 ghost use Rattle.players.specs.Calls.{Compared};
 
 // What a call returns: whether the answer slice was long enough, and the answer written.
@@ -55,32 +56,29 @@ fn verdict_numbers(judgement: Judgement) -> [u64; 6]
     }
 }
 
+// The numbers of a comparison that was made; `missing` is 0 or 1.
+fn given_numbers(missing: u64, c: Comparison) -> [u64; 9]
+    ensures { λ r. ⌜ r ≡ givenNumbers missing c ⌝ }
+{
+    [
+        0,
+        missing,
+        c.reached as u64,
+        c.prefix as u64,
+        c.period as u64,
+        0,
+        0,
+        0,
+        0,
+    ]
+}
+
 fn compare_numbers(answer: Answer) -> [u64; 9]
     ensures { λ r. ⌜ r ≡ compareNumbers (answerSays answer) ⌝ }
 {
     match answer {
-        Answer::Absent(c) => [
-            0,
-            0,
-            c.reached as u64,
-            c.prefix as u64,
-            c.period as u64,
-            0,
-            0,
-            0,
-            0,
-        ],
-        Answer::Found(c) => [
-            0,
-            1,
-            c.reached as u64,
-            c.prefix as u64,
-            c.period as u64,
-            0,
-            0,
-            0,
-            0,
-        ],
+        Answer::Absent(c) => given_numbers(0, c),
+        Answer::Found(c) => given_numbers(1, c),
         Answer::Refused(r) => {
             let part = r.part;
             [

@@ -8,14 +8,13 @@ use lib.ListN.{length, getD}
 use borrow.Author.Needs.{needs}
 use Rattle.fdfa.specs.Words.{Over}
 use Rattle.fdfa.specs.Family.{Fdfa, walk}
-use Rattle.fdfa.specs.Normalization.{returnFrom, returning, after}
-use Rattle.fdfa.proofs.Words.{turns-one}
-use Rattle.fdfa.proofs.Normal.{after-add, after-none, follows, inside}
+use Rattle.fdfa.specs.Normalization.{after}
+use Rattle.fdfa.proofs.Normal.{after-none, after-next, follows, inside}
 use Rattle.packed.specs.Layout.{letterCount, stateCount, leadingAt, tableStep, decode}
 use Rattle.packed.specs.Columns.{columnStep, Walkable}
 use Rattle.packed.proofs.Reading.{length-columns, lead-fits, lead-walks}
 use Rattle.packed.proofs.Soundness.{valid-packable}
-use Rattle.membership.proofs.Seen.{Seen, seen-none, room, seen-more, seen-returns}
+use Rattle.membership.proofs.Seen.{Seen, Returned, seen-none, room, seen-more, seen-returns}
 use Rattle.membership.proofs.normalize.Statement.{statement}
 use Rattle.membership.proofs.normalize.Tie as tie
 
@@ -48,16 +47,11 @@ state-few c = omega (arith, c .loop .inv .2, within c (c .loop .t), few c)
 left : (c : tie.In-loop Inv-loop μ-loop) → c .before .loop .t < family (c .before) .states
 left c = let i = c .before in room (seq i) _ (within i) (few i) _ _ (i .loop .inv .0) (i .loop .inv .2) (c .loop-test .taken)
 
-found : (c : tie.After-loop Inv-loop μ-loop) → let i = c .before in let n = family i .states in let x = getD (i .loop .seen) (i .loop .q) 0 in
-    (1 ≤ x) × (x - 1 ≤ i .loop .t) × (x - 1 ≡ returning n (seq i)) × (i .loop .t - (x - 1) ≡ returnFrom n (seq i) (returning n (seq i))) × (i .loop .q ≡ seq i (returning n (seq i)))
+found : (c : tie.After-loop Inv-loop μ-loop) → let i = c .before in Returned (seq i) (family i .states) (i .loop .t) (getD (i .loop .seen) (i .loop .q) 0) (i .loop .q)
 found c =
     let i = c .before in
     let p = entry i .pre .0 in
     seen-returns (seq i) _ (within i) (few i) _ _ (i .loop .inv .0) (i .loop .inv .2) (follows (family i) (valid-packable _ (p .0) .complete) _ _ (p .1)) (c .loop-test .left)
-
--- one turn more
-after-next : (F : Fdfa) (u v : List ℕ) (t : ℕ) {q : ℕ} → q ≡ after F u v t → walk (F .step) q v ≡ after F u v (t + 1)
-after-next F u v t e = ap (λ (q : ℕ). walk (F .step) q v) e ∙ sym (after-add F u v t 1 ∙ ap (walk (F .step) (after F u v t)) (turns-one v))
 
 -- the table by letter: its length, and how it is walked
 long : (c : tie.After-columns Inv-loop μ-loop) → length (c .columns .result) ≡ 1024
@@ -141,13 +135,13 @@ array-read-i : tie.Need-array-read-i Inv-loop μ-loop
 array-read-i c = state-few (c .before)
 
 sub-i : tie.Need-sub-i Inv-loop μ-loop
-sub-i c = omega (arith, found c .0)
+sub-i c = omega (arith, found c .some)
 
 sub-t24 : tie.Need-sub-t24 Inv-loop μ-loop
-sub-t24 c = omega (arith, found c .1)
+sub-t24 c = omega (arith, found c .upto)
 
 returns : tie.Need-returns Inv-loop μ-loop
-returns c = let f = found c in λ k. record { i = f .2 k; j = f .3 k; state = f .4 k }
+returns c = let f = found c in λ k. record { i = f .first k; j = f .second k; state = f .stands k }
 
 pub normalize-spec : {M : Type 1} → statement M
 normalize-spec =

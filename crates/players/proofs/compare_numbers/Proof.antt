@@ -12,23 +12,31 @@ use Rattle.players.proofs.compare_numbers.Tie as tie
 enum-known-answer : tie.Need-enum-known-answer
 enum-known-answer c = search needs
 
+given-numbers-requires : tie.Need-given-numbers-requires
+given-numbers-requires c κs = search needs
+
 enum-known-answer-2 : tie.Need-enum-known-answer-2
 enum-known-answer-2 c = search needs
+
+given-numbers-requires-2 : tie.Need-given-numbers-requires-2
+given-numbers-requires-2 c κs = search needs
 
 enum-known-answer-3 : tie.Need-enum-known-answer-3
 enum-known-answer-3 c = search needs
 
-cast-t13 : tie.Need-cast-t13
-cast-t13 c = search needs
+cast-t7 : tie.Need-cast-t7
+cast-t7 c = search needs
 
 part-number-requires : tie.Need-part-number-requires
 part-number-requires c κs = search needs
 
 returns : tie.Need-returns
-returns c = ap (λ (a : Answer). compareNumbers (saysOf a)) (sym (c .before .answer .given .1))
+returns c =
+    c .given-numbers .ensures ∙ ap (λ (a : Answer). compareNumbers (saysOf a)) (sym (c .before .before .answer .given .1))
 
 returns-2 : tie.Need-returns-2
-returns-2 c = ap (λ (a : Answer). compareNumbers (saysOf a)) (sym (c .before .answer2 .given .1))
+returns-2 c =
+    c .given-numbers2 .ensures ∙ ap (λ (a : Answer). compareNumbers (saysOf a)) (sym (c .before .before .answer2 .given .1))
 
 returns-3 : tie.Need-returns-3
 returns-3 c =
@@ -41,9 +49,11 @@ compare-numbers-spec =
     tie.close
     (tie.spec
     enum-known-answer
+    given-numbers-requires
     enum-known-answer-2
+    given-numbers-requires-2
     enum-known-answer-3
-    cast-t13
+    cast-t7
     part-number-requires
     returns
     returns-2
