@@ -8,8 +8,8 @@ use lib.ListN.{length, set, take, drop, length-set, drop-of-length-le, take-appe
 use lib.Seq.{length-take-le, take-set-lt, drop-set-lt, drop-cons, getD-set-same}
 use Rattle.slices.specs.Filling.{written}
 use Rattle.search.proofs.Letters.{length-letters}
-use Rattle.search.specs.Snoc.{Word, ε, _·_, size, letters}
-use Rattle.search.specs.Cells.{letterAt, parentAt}
+use Rattle.search.specs.Words.{Word, ε, _·_, size, letters}
+use Rattle.search.specs.Queue.{letterAt, parentAt}
 use Rattle.search.specs.Paths.{Path, at-root, at-step, Readable, Deep, Filled}
 
 -- the last letter of a code's word, and its parent's word

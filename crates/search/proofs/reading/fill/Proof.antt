@@ -1,11 +1,12 @@
+-- `search::reading::fill` meets its contract. Assumes nothing.
 use mathlib.Core.Path.{_≡_, refl}
 use denote.Ref.{now}
 use Prim.Native.Nat.{_-_}
 use native.Mathlib.Omega.{arith}
 use lib.ListN.{length, length-set}
-use Rattle.search.proofs.Reading.{Filling, filling-start, filling-at, filling-more, filling-end}
-use Rattle.search.proofs.fill.Statement.{statement}
-use Rattle.search.proofs.fill.Tie as tie
+use Rattle.search.proofs.ReadBack.{Filling, filling-start, filling-at, filling-more, filling-end}
+use Rattle.search.proofs.reading.fill.Statement.{statement}
+use Rattle.search.proofs.reading.fill.Tie as tie
 
 abbrev Inv-loop : tie.InvT-loop
 Inv-loop cells code len out₀ c₀ at₀ out c at = (length out ≡ length out₀) × Filling cells code len out₀ out c at
@@ -13,49 +14,38 @@ Inv-loop cells code len out₀ c₀ at₀ out c at = (length out ≡ length out�
 abbrev μ-loop : tie.MeasureT-loop
 μ-loop cells code len out₀ c₀ at₀ out c at = at
 
--- src/lib.rt:172:5
 loop-holds : tie.Need-loop-holds Inv-loop μ-loop
 loop-holds c = (refl, filling-start (now (c .args .out)) (c .pre .0) (c .pre .1 .0) (c .pre .1 .1))
 
--- src/lib.rt:173:23
 sub-e : tie.Need-sub-e Inv-loop μ-loop
 sub-e c = filling-at (c .before .loop .inv .1) (c .loop-test .taken)
 
--- src/lib.rt:173:17
 mul-e : tie.Need-mul-e Inv-loop μ-loop
 mul-e c = omega (arith, c .before .loop .inv .1 .within, c .before .loop .inv .1 .inside, c .before .before .good)
 
--- src/lib.rt:173:17
 shared-slice-read-e : tie.Need-shared-slice-read-e Inv-loop μ-loop
 shared-slice-read-e c =
     let i = c .before in
     let g = i .before .loop .inv .1 in omega (arith, g .within, g .inside, filling-at g (i .loop-test .taken))
 
--- src/lib.rt:174:9
 sub-at : tie.Need-sub-at Inv-loop μ-loop
 sub-at c = omega arith
 
--- src/lib.rt:175:19
 cast-out : tie.Need-cast-out Inv-loop μ-loop
 cast-out c = omega arith
 
--- src/lib.rt:175:9
 slice-write-out : tie.Need-slice-write-out Inv-loop μ-loop
 slice-write-out c = let i = c .before in omega (arith, i .before .loop .inv .1 .upto, i .before .loop .inv .1 .room, i .loop-test .taken)
 
--- src/lib.rt:172:5
 loop-less : tie.Need-loop-less Inv-loop μ-loop
 loop-less c = omega arith
 
--- src/lib.rt:172:5
 loop-again : tie.Need-loop-again Inv-loop μ-loop
 loop-again c = let i = c .before in (simp length-set (i .before .loop .inv .0), filling-more (i .before .loop .inv .1) (i .loop-test .taken))
 
--- src/lib.rt:165:1
 same-length : tie.Need-same-length Inv-loop μ-loop
 same-length c = c .before .loop .inv .0
 
--- src/lib.rt:165:1
 returns : tie.Need-returns Inv-loop μ-loop
 returns c = filling-end (c .before .loop .inv .1) (c .loop-test .left)
 
