@@ -119,3 +119,14 @@ pub fn clear(cells: &mut [u64])
         i += 1;
     }
 }
+
+// Marks every state as not met.
+pub fn refresh(marks: &mut [u8])
+    ensures { λ _. ⌜ now (marks .exit) ≡ replicate (length (now (marks .entry))) 1 ⌝ }
+{
+    let mut i = 0;
+    while i < marks.len() {
+        marks[i] = 1;
+        i += 1;
+    }
+}

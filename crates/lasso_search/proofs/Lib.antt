@@ -1,0 +1,6 @@
+mod Marks
+mod Joined
+mod Leading
+mod Difference
+mod Lassos
+mod Rounds
