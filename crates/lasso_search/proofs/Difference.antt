@@ -2,26 +2,29 @@
 use mathlib.Core.Path.{_≡_, refl, ap, sym, subst, _∙_}
 use mathlib.Core.Bool.{Bool}
 use mathlib.Core.List.{List}
-use Prim.Native.Nat.{ℕ, _+_, _*_, _/_, _%_, _≤_, _<_}
+use Prim.Native.Nat.{ℕ, _+_, _*_, _-_, _/_, _%_, _≤_, _<_}
 use native.Mathlib.Omega.{arith}
-use native.Mathlib.Nat.{mod-lt, mul-pos}
+use native.Mathlib.Nat.{mod-lt, mul-pos, mul-le-mul, mul-le-mul-right, mul-comm, one-mul}
 use lib.Arith.{digits-lt}
 use lib.ListN.{length, getD, List·getD-append}
 use Rattle.slices.specs.Filling.{written}
 use Rattle.slices.specs.Tables.{table}
+use Rattle.slices.proofs.Extremes.{largest-le}
 use Rattle.slices.proofs.Filling.{length-written}
 use Rattle.slices.proofs.Tables.{length-table, getD-table}
 use Rattle.fdfa.specs.Family.{Fdfa, Complete}
 use Rattle.fdfa.specs.Boolean.{beside}
+use Rattle.fdfa.specs.Inclusion.{widest}
 use Rattle.fdfa.proofs.Product.{left-below, product-complete}
 use Rattle.fdfa.proofs.Inclusion.{butNot}
 use Rattle.packed.specs.Layout.{letterCount, stateCount, sizeOf, leadingAt, progressAt, tableStep, decode}
 use Rattle.packed.proofs.Soundness.{valid-packable}
 use Rattle.pairing.specs.declared.Beside.{Beside}
-use Rattle.pairing.specs.Pairs.{Alike, leadsOf, progressOf, marksOf, nextPair, Steps}
-use Rattle.pairing.proofs.Within.{progress-steps, marks-read, lead-steps}
+use Rattle.pairing.specs.Pairs.{Alike, leadsOf, progressOf, marksOf, nextPair, sizesOf, Steps}
+use Rattle.pairing.proofs.Within.{few-progress, progress-steps, marks-read}
 use Rattle.search.specs.Search.{rowStep}
-use Rattle.lasso_search.specs.Codes.{Tabulated, EndReads, endsAt, difference}
+use Rattle.lasso_search.specs.Lassos.{difference}
+use Rattle.lasso_search.specs.Codes.{Tabulated, EndReads, endsAt, Room}
 
 -- what a table that was written has
 pub tabulated : {b c : List ℕ} {t : Beside} {m : ℕ} (old : List ℕ) {out : List ℕ} → Steps b c t m → m * t .letters ≤ length old → out ≡ written (table m (t .letters) (nextPair b c t)) old
@@ -108,3 +111,30 @@ pub progress-table : {b c : List ℕ} {q : ℕ} {g m : Beside} {k : ℕ} (old : 
     → Tabulated out k (difference b c .letters) (difference b c .progress q)
 progress-table {b} {c} {q} {g} {k = k} old {out} R room e =
     subst (λ (s : ℕ). Tabulated out k s (difference b c .progress q)) (R .letters) (subst (Tabulated out k (g .letters)) (R .next) (tabulated old (R .steps) room e))
+
+-- marks and cells for all combinations suffice
+module _ {b c : List ℕ} (A : Alike b c) {n w : ℕ} (ne : n ≡ sizesOf b c .pairs) (we : w ≡ sizesOf b c .widest) where
+  some : 0 < n
+  some = omega (arith, ne, complete A .start)
+
+  module _ (q : ℕ) (h : q < n) where
+    within : difference b c .size q ≤ w
+    within =
+        let i : q < difference b c .states = omega (arith, ne) in
+        let l : difference b c .size q ≤ widest (decode b) * widest (decode c) = mul-le-mul (largest-le (stateCount b) (sizeOf b) (q / stateCount c) (p-in A i)) (largest-le (stateCount c) (sizeOf c) (q % stateCount c) (r-in A i)) in
+        omega (arith, we)
+
+    all-within : difference b c .size q * n ≤ n * w
+    all-within = omega (arith, mul-le-mul-right n within, mul-comm n w)
+
+  pub room-of : {marks cells : ℕ} → n * w ≤ marks → cells ≡ n + n * w → Room (difference b c) n 32768 marks (cells - (n - 1))
+  room-of {marks} {cells} m e = record {
+    all = ne;
+    leads = omega (arith, all-within 0 some, mul-le-mul-right n one, one-mul n);
+    rows-fit = λ q h. let i : q < difference b c .states = omega (arith, ne) in mul-le-mul (few-progress A (q / stateCount c) (q % stateCount c) (p-in A i) (r-in A i)) (A .first .header .few-letters);
+    marks-fit = λ q h. omega (arith, all-within q h);
+    cells-fit = λ q h. omega (arith, all-within q h, some);
+  }
+    where
+      one : 1 ≤ difference b c .size 0
+      one = complete A .starts 0 (omega (arith, some, ne))

@@ -4,3 +4,4 @@ mod Leading
 mod Difference
 mod Lassos
 mod Rounds
+mod Written

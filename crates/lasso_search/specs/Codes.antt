@@ -8,14 +8,16 @@ use Prim.Native.Nat.{ℕ, _+_, _*_, _-_, _/_, _%_, _≤_, _<_}
 use lib.Dec.{eqb}
 use lib.ListN.{length, getD, take, drop}
 use Rattle.fdfa.specs.Family.{Fdfa, Closed}
-use Rattle.fdfa.specs.Boolean.{product}
 use Rattle.fdfa.specs.Inclusion.{Counts, Reached, Accepted}
-use Rattle.packed.specs.Layout.{decode}
 use Rattle.pairing.specs.declared.Beside.{Beside}
 use Rattle.search.specs.Words.{Word, ε, _⊏_, _⊑_, run, Over, letters}
 use Rattle.search.specs.Queue.{stateAt}
-use Rattle.search.specs.Paths.{Path}
+use Rattle.search.specs.Paths.{Path, Readable}
 use Rattle.search.specs.Search.{rowStep}
+use Rattle.fdfa.specs.Enumeration.{lasso}
+use Rattle.slices.specs.Refusals.{unless}
+use Rattle.lasso_search.specs.Lassos.{reportOf, outcomeSays, Lent, roomFault, lassoWritten}
+use Rattle.lasso_search.specs.declared.Outcome.{Outcome}
 use Rattle.lasso_search.specs.declared.Codes.{Codes}
 use Rattle.lasso_search.specs.declared.Codes.the-variants.{Absent, Found}
 
@@ -86,10 +88,6 @@ pub record Leads (f : ℕ → ℕ → ℕ) (s n : ℕ) (front : List ℕ) (reach
   pub all : (u : Word) → Over s u → (j : ℕ) × (j < reached) × (run f 0 (W j) ≡ run f 0 u) × (W j ⊑ u)
   pub counted : Counts (Reached s f) n reached
 
--- The family whose accepted and normalized lassos are the counterexamples: marked where the first is and the second is not.
-abbrev pub difference : List ℕ → List ℕ → Fdfa
-difference b c = product (λ x y. x && not y) (decode b) (decode c)
-
 -- Rows, marks and cells suffice for the search from each leading state.
 pub record Room (P : Fdfa) (n rows marks cells : ℕ) : Type 0 where
   pub all : n ≡ P .states
@@ -110,3 +108,19 @@ abbrev pub Located : Fdfa → List ℕ → Codes → Type 0
 Located P work (Absent r) = Counts (Reached (P .letters) (P .step)) (P .states) r × ((u v : List ℕ) → Accepted P u v → ⊥)
 Located P work (Found r i h) =
     Counts (Reached (P .letters) (P .step)) (P .states) r × FirstAt (λ u v. Accepted P (letters u) (letters v)) (P .states) work i h
+
+-- The two codes can be read back as words, from the cells before `front` and from those behind.
+pub record CanTell (front : ℕ) (work : List ℕ) (i h : ℕ) : Type 0 where
+  pub fits : front ≤ length work
+  pub few : front ≤ 1024
+  pub prefix : Readable (take front work) i
+  pub period : Readable (take (length work - front) (drop front work)) h
+
+-- What is said and written of the words u and v that the codes have.
+pub record Tells (front : ℕ) (work : List ℕ) (i h reached : ℕ) (before after : Lent) (r : Outcome) : Type 0 where
+  pub u : Word
+  pub v : Word
+  pub u-path : Path (take front work) i u
+  pub v-path : Path (take (length work - front) (drop front work)) h v
+  pub says : outcomeSays r ≡ unless (roomFault (lasso (letters u) (letters v)) before) (reportOf reached (lasso (letters u) (letters v)))
+  pub written : after ≡ lassoWritten (roomFault (lasso (letters u) (letters v)) before) (lasso (letters u) (letters v)) before

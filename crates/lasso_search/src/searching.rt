@@ -8,8 +8,9 @@ ghost use mathlib.Core.Bool.{Bool, true, false};
 ghost use Prim.Native.Nat.{ℕ, _+_, _-_, _*_, _≤_, _<_};
 ghost use lib.ListN.{length, take};
 ghost use Rattle.search.specs.Words.{Word, ε, run, Over};
-ghost use Rattle.pairing.specs.Pairs.{Alike, leadsOf};
-ghost use Rattle.lasso_search.specs.Codes.{Tabulated, Marked, Leads, difference, Room, Prepared, Located};
+ghost use Rattle.pairing.specs.Pairs.{Alike, leadsOf, sizesOf};
+ghost use Rattle.lasso_search.specs.Lassos.{difference};
+ghost use Rattle.lasso_search.specs.Codes.{Tabulated, Marked, Leads, Room, Prepared, Located};
 
 // Searches the leading states alone, the progress standing still; the number of those reached.
 fn reach(leads: &[u16], n: usize, letters: usize, marks: &mut [u8], cells: &mut [u64]) -> usize
@@ -73,7 +74,7 @@ fn prepare(
 
 // The first lasso, by the codes that the cells have for it: the pairs of leading states in the order of their first prefixes, and for
 // each the combinations in the order of their first periods.
-pub fn find(
+fn find(
     first: &[u8],
     second: &[u8],
     t: Beside,
@@ -128,4 +129,37 @@ pub fn find(
         i += 1;
     }
     out
+}
+
+// The search with marks for 8,192 combinations, and for as many as there can be.
+fn find_few(first: &[u8], second: &[u8], t: Beside, n: usize, work: &mut [u64]) -> Codes
+    requires { ⌜ Alike (now first) (now second) × (t ≡ leadsOf (now first) (now second)) × (n ≡ difference (now first) (now second) .states) ⌝ }
+    requires { ⌜ Room (difference (now first) (now second)) n 32768 8192 (length (now work) - (n - 1)) ⌝ }
+    ensures { λ r. ⌜ Located (difference (now (first .entry)) (now (second .entry))) (now (work .exit)) r ⌝ }
+{
+    let mut marks = [0u8; 8192];
+    find(first, second, t, n, &mut marks, work)
+}
+
+fn find_many(first: &[u8], second: &[u8], t: Beside, n: usize, work: &mut [u64]) -> Codes
+    requires { ⌜ Alike (now first) (now second) × (t ≡ leadsOf (now first) (now second)) × (n ≡ difference (now first) (now second) .states) ⌝ }
+    requires { ⌜ Room (difference (now first) (now second)) n 32768 1048576 (length (now work) - (n - 1)) ⌝ }
+    ensures { λ r. ⌜ Located (difference (now (first .entry)) (now (second .entry))) (now (work .exit)) r ⌝ }
+{
+    let mut marks = [0u8; 1048576];
+    find(first, second, t, n, &mut marks, work)
+}
+
+// The first lasso by its codes: of n pairs of leading states, and at most `widest` pairs of progress states with each.
+pub fn locate(first: &[u8], second: &[u8], n: usize, widest: usize, work: &mut [u64]) -> Codes
+    requires { ⌜ Alike (now first) (now second) × (n ≡ sizesOf (now first) (now second) .pairs) × (widest ≡ sizesOf (now first) (now second) .widest) ⌝ }
+    requires { ⌜ length (now work) ≡ n + n * widest ⌝ }
+    ensures { λ r. ⌜ Located (difference (now (first .entry)) (now (second .entry))) (now (work .exit)) r ⌝ }
+{
+    let t = pairing::leads(first, second);
+    if n * widest <= 8192 {
+        find_few(first, second, t, n, work)
+    } else {
+        find_many(first, second, t, n, work)
+    }
 }

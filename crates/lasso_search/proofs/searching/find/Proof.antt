@@ -18,7 +18,8 @@ use Rattle.search.specs.Search.{Aim, joint, Ready, Search, Ends, Expanded}
 use Rattle.search.proofs.Outcomes.{codes-few}
 use Rattle.lasso_search.specs.declared.Codes.{Codes}
 use Rattle.lasso_search.specs.declared.Codes.the-variants.{Absent, Found}
-use Rattle.lasso_search.specs.Codes.{Tabulated, Marked, Leads, difference, Room, Located}
+use Rattle.lasso_search.specs.Lassos.{difference}
+use Rattle.lasso_search.specs.Codes.{Tabulated, Marked, Leads, Room, Located}
 use Rattle.lasso_search.proofs.Joined.{aimAt, begin}
 use Rattle.lasso_search.proofs.Difference.{complete, lead-step, tabulated}
 use Rattle.lasso_search.proofs.Lassos.{none-accepted, first-accepted}
