@@ -37,6 +37,14 @@ pub enum Validities {
     Refused(Refusal),
 }
 
+// How many letters the sheet has.
+pub fn letters(sheet: &[u8]) -> usize
+    requires { ⌜ 0 < length (now sheet) ⌝ }
+    ensures { λ r. ⌜ r ≡ letterCount (now (sheet .entry)) ⌝ }
+{
+    wide(sheet[0])
+}
+
 // How many leading states the sheet has.
 pub fn states(sheet: &[u8]) -> usize
     requires { ⌜ 1 < length (now sheet) ⌝ }

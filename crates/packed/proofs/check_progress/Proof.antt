@@ -1,16 +1,15 @@
 -- `packed::check_progress` meets its contract: what is left to judge at q says the same as the whole. Assumes nothing.
 use mathlib.Core.Path.{_≡_, ap, sym, _∙_}
-use mathlib.Core.List.{List}
 use Prim.Native.Nat.{ℕ, _+_, _*_, _-_, _≤_}
 use native.Mathlib.Omega.{arith}
 use native.Mathlib.Nat.{sub-zero}
 use denote.Ref.{now}
 use Rattle.slices.specs.Refusals.{given, refused}
 use Rattle.slices.specs.Extremes.{largest}
-use Rattle.packed.specs.Layout.{letterCount, stateCount, sizeOf, progressAt, marksAt, Header}
+use Rattle.packed.specs.Layout.{letterCount, sizeOf, progressAt, marksAt}
 use Rattle.slices.specs.Scans.{firstOutside}
 use Rattle.packed.specs.Faults.{progressFault, sizesOf}
-use Rattle.packed.proofs.Bounds.{few-both, progress-first, Body, body}
+use Rattle.packed.proofs.Bounds.{head-few, progress-first, Body, body}
 use Rattle.slices.proofs.Refusals.{refuses, gives}
 use Rattle.packed.proofs.Scan.{fails-next, fails-marks, passes-state}
 use borrow.Author.Needs.{needs}
@@ -54,9 +53,6 @@ scanned-marks c =
 table-size : (c : tie.After-size Inv-loop μ-loop) → let b = now (start (c .before) .args .sheet) in
     c .size .result * start (c .before) .args .s ≡ sizeOf b (c .before .before .loop .q) * letterCount b
 table-size c = let k = c .size .ensures in let s = start (c .before) .pre .1 .0 in λ i. k i * s i
-
-head-few : (b : List ℕ) (n s : ℕ) → Header b → n ≡ stateCount b → s ≡ letterCount b → (n ≤ 32) × (n * s ≤ 1024)
-head-few b n s h e d = (omega (arith, h .few-states), few-both (omega (arith, h .few-states)) (omega (arith, h .few-letters)))
 
 add-at : tie.Need-add-at Inv-loop μ-loop
 add-at c = omega (arith, head-few _ _ _ (c .before .pre .0 .0) (c .before .pre .1 .1) (c .before .pre .1 .0))

@@ -3,8 +3,8 @@ use mathlib.Core.Path.{_≡_, ap, ap₂, sym, _∙_}
 use mathlib.Core.List.{List}
 use Prim.Native.Nat.{ℕ, _+_, _*_, _-_, _≤_}
 use native.Mathlib.Omega.{arith}
-use Rattle.packed.specs.Layout.{letterCount, stateCount, sizeOf, progressAt, Header}
-use Rattle.packed.proofs.Bounds.{few-both, part-few, progress-first, progress-next, progress-few}
+use Rattle.packed.specs.Layout.{letterCount, stateCount, sizeOf, progressAt}
+use Rattle.packed.proofs.Bounds.{head-few, part-few, progress-first, progress-next, progress-few}
 use borrow.Author.Needs.{needs}
 use Rattle.packed.proofs.progress_at.Statement.{statement}
 use Rattle.packed.proofs.progress_at.Tie as tie
@@ -20,9 +20,6 @@ first b n s e d = ap₂ (λ (n s : ℕ). 2 + n + n * s) e d ∙ sym (progress-fi
 
 further : (b : List ℕ) (r at k s : ℕ) → at ≡ progressAt b r → k ≡ sizeOf b r → s ≡ letterCount b → at + k * (s + 1) ≡ progressAt b (r + 1)
 further b r at k s e d f = (ap (λ (x : ℕ). x + k * (s + 1)) e ∙ ap₂ (λ (x y : ℕ). progressAt b r + x * (y + 1)) d f) ∙ progress-next b r
-
-head-few : (b : List ℕ) (n s : ℕ) → Header b → n ≡ stateCount b → s ≡ letterCount b → (n ≤ 32) × (n * s ≤ 1024)
-head-few b n s h e d = (omega (arith, h .few-states), few-both (omega (arith, h .few-states)) (omega (arith, h .few-letters)))
 
 few-of : (x y : ℕ) → x ≡ y → y ≤ 32 → x ≤ 32
 few-of x y e h = omega arith

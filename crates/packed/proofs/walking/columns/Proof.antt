@@ -3,10 +3,11 @@ use mathlib.Core.Path.{_≡_, ap, subst, _∙_}
 use mathlib.Core.List.{List}
 use Prim.Native.Nat.{ℕ, _+_, _*_, _-_, _≤_, _<_}
 use native.Mathlib.Omega.{arith}
-use native.Mathlib.Nat.{add-mul, one-mul, mul-le-mul-right, zero-mul}
+use native.Mathlib.Nat.{zero-mul}
 use borrow.Author.Count.{below-more}
 use denote.Ref.{now}
 use lib.ListN.{length, getD, length-replicate}
+use Rattle.slices.proofs.Tables.{row-after, row-end}
 use Rattle.packed.specs.Layout.{tableStep}
 use Rattle.packed.specs.Columns.{columnStep, Entered, Columns}
 use borrow.Author.Needs.{needs}
@@ -18,12 +19,6 @@ Inv-loop sheet at letters states table₀ from₀ q₀ table from q = (q ≤ sta
 
 abbrev μ-loop : tie.MeasureT-loop
 μ-loop sheet at letters states table₀ from₀ q₀ table from q = states - q
-
-row-after : (q s : ℕ) → (q + 1) * s ≡ q * s + s
-row-after q s = omega (arith, add-mul q 1 s, one-mul s)
-
-row-fits : (at q s m n : ℕ) → q < m → at + m * s ≤ n → at + q * s + s ≤ n
-row-fits at q s m n h l = let k : q + 1 ≤ m = omega arith in omega (arith, mul-le-mul-right s k, row-after q s)
 
 -- one state more
 more : (b t t′ : List ℕ) (at from s q : ℕ) → from ≡ at + q * s → q < 32 → Columns b at s q t → Entered b from s q t t′ → Columns b at s (q + 1) t′
@@ -45,7 +40,7 @@ start c = c .before .before
 fits : (c : tie.In-loop Inv-loop μ-loop) → let s = start (c .before) in c .before .loop .from + s .args .letters ≤ length (now (s .args .sheet))
 fits c =
     let i = c .before in
-    omega (arith, row-fits _ (i .loop .q) _ _ _ (c .loop-test .taken) (start i .pre .0), i .loop .inv .1)
+    omega (arith, row-end (i .loop .q) _ (start i .args .letters) (c .loop-test .taken), start i .pre .0, i .loop .inv .1)
 
 loop-holds : tie.Need-loop-holds Inv-loop μ-loop
 loop-holds c = (search needs, omega (arith, zero-mul (c .before .args .letters)), record { long = length-replicate {A = ℕ} 1024 0; steps = λ q a h l. absurd (omega arith) })
