@@ -11,14 +11,9 @@ use Rattle.fdfa.proofs.Product.{product-complete}
 use Rattle.fdfa.proofs.Emptiness.{answers-unique, answers-map}
 use Rattle.fdfa.proofs.Inclusion.{butNot, accepted-counterexample, counterexample-accepted, comparison-answers, contained-all}
 use Rattle.fdfa.proofs.Reach.{counts-unique, reached-states, reached-pairs}
-use Rattle.packed.specs.Layout.{decode}
-use Rattle.packed.proofs.Soundness.{valid-packable}
-use Rattle.inclusion.specs.declared.Answer.{Answer}
-use Rattle.inclusion.specs.declared.Beside.{Beside}
-use Rattle.inclusion.specs.Answers.{Meets}
-use Rattle.inclusion.specs.Tables.{Twin, twin}
-use Rattle.inclusion.proofs.Twins.{twin-is}
-use Rattle.inclusion.proofs.Telling.{Shows, shows-none, shows-first, shows-refusal}
+use Rattle.lasso_search.specs.declared.Outcome.{Outcome}
+use Rattle.inclusion.specs.Calls.{Slices, DecidesInclusion}
+use Rattle.inclusion.proofs.Settling.{Shows, shows-none, shows-first, shows-refusal}
 
 module _ (F G : Fdfa) (alike : F .letters ≡ G .letters) (CF : Complete F) (CG : Complete G) where
   abbrev P : Fdfa
@@ -41,22 +36,8 @@ module _ (F G : Fdfa) (alike : F .letters ≡ G .letters) (CF : Complete F) (CG 
   counted e = subst (Counts (ReachedPair F G) (pairs F G)) (sym e) (reached-pairs F G alike CF CG)
 
   -- the third demand, whatever the answer is
-  pub meets : {o p : List ℕ} {r : Answer} → Shows (comparison F G .reached) (comparison F G .witness) o p r → Meets F G o p r
-  meets (shows-none w e) = (counted e, none-of (subst (Answers (Counterexample F G)) w (comparison-answers F G alike CF CG)), λ TF TG. contained-all F G alike CF CG TF TG w)
-  meets (shows-first w e a b) =
+  pub decides : (w : List ℕ) {o p : List ℕ} {r : Outcome} → Shows (comparison F G .reached) (comparison F G .witness) o p r → DecidesInclusion F G (record { opening = o; period = p; work = w }) r
+  decides x (shows-none w e) = (counted e, none-of (subst (Answers (Counterexample F G)) w (comparison-answers F G alike CF CG)), λ TF TG. contained-all F G alike CF CG TF TG w)
+  decides x (shows-first w e a b) =
       (counted e, subst₂ (First (Counterexample F G)) (sym a) (sym b) (first-of (subst (Answers (Counterexample F G)) w (comparison-answers F G alike CF CG))))
-  meets shows-refusal = tt
-
--- the family of pairs of two sheets
-module _ {b c : List ℕ} {t : Beside} {n : ℕ} (T : Twin b c t n) where
-  pub first-complete : Complete (decode b)
-  first-complete = valid-packable b (T .first-valid) .complete
-
-  pub second-complete : Complete (decode c)
-  second-complete = valid-packable c (T .second-valid) .complete
-
-  pub twin-witness : {w : Witness} → Answers (Accepted (twin b c t n)) w → w ≡ comparison (decode b) (decode c) .witness
-  twin-witness {w} a = witness-is (decode b) (decode c) (T .alike) first-complete second-complete (subst (λ (P : Fdfa). Answers (Accepted P) w) (twin-is T) a)
-
-  pub twin-reached : {r : ℕ} → Counts (Reached (twin b c t n .letters) (twin b c t n .step)) n r → r ≡ comparison (decode b) (decode c) .reached
-  twin-reached {r} m = reached-is (decode b) (decode c) (T .alike) first-complete second-complete (subst (λ (P : Fdfa). Counts (Reached (P .letters) (P .step)) (P .states) r) (twin-is T) m)
+  decides x shows-refusal = tt

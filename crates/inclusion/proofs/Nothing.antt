@@ -23,13 +23,18 @@ use Rattle.fdfa.proofs.Reach.{counts-unique, reached-states}
 use Rattle.slices.specs.Tables.{sum}
 use Rattle.packed.specs.Layout.{letterCount, stateCount, sizeOf, leadingAt, progressAt, marksAt, decode, Valid}
 use Rattle.packed.proofs.Soundness.{valid-packable}
-use Rattle.search.proofs.Work.{zeros-getD}
-use Rattle.inclusion.specs.declared.Answer.{Answer}
-use Rattle.inclusion.specs.Answers.{emptyCells, MeetsEmpty}
-use Rattle.inclusion.specs.Tables.{nothingBytes, besideNothing, Twin, twin}
-use Rattle.inclusion.specs.Search.{Room}
-use Rattle.inclusion.proofs.Twins.{twin-is}
-use Rattle.inclusion.proofs.Telling.{Shows, shows-none, shows-first, shows-refusal}
+use Rattle.pairing.specs.declared.PairSizes.{PairSizes}
+use Rattle.pairing.specs.Pairs as pairing
+use Rattle.pairing.specs.Pairs.{Alike}
+use Rattle.lasso_search.specs.declared.Outcome.{Outcome}
+use Rattle.inclusion.specs.Calls.{Slices, DecidesEmptiness}
+use Rattle.inclusion.specs.Nothing.{nothingBytes}
+use Rattle.inclusion.proofs.Settling.{Shows, shows-none, shows-first, shows-refusal}
+
+zeros-getD : (m x : ℕ) → _≡_ {A = ℕ} (getD (replicate m 0) x 0) 0
+zeros-getD zero x = refl
+zeros-getD (suc m) zero = refl
+zeros-getD (suc m) (suc x) = zeros-getD m x
 
 only : (q : ℕ) → q < 1 → q ≡ 0
 only q h = omega arith
@@ -93,32 +98,17 @@ module _ (s : ℕ) where
       take-zeros (suc n) zero h = absurd (not-suc-le-zero h)
       take-zeros (suc n) (suc m) h = ap (λ (l : List ℕ). 0 ∷ l) (take-zeros n m (le-of-suc-le-suc h))
 
--- the tables of a sheet beside it
+-- a sheet beside it
 module _ (b : List ℕ) (valid : Valid b) where
-  pub empty-twin : {letters n : ℕ} {c : List ℕ} → letters ≡ letterCount b → n ≡ stateCount b → c ≡ nothingBytes letters
-      → Twin b c (record { first = 2 + n; second = 3; letters = letters; width = 1 }) n
-  empty-twin {letters} {n} el en ec =
-      subst (λ (x : List ℕ). Twin b x (record { first = 2 + n; second = 3; letters = letters; width = 1 }) n) (sym ec)
-      (record {
-        first-valid = valid;
-        second-valid = nothing-valid letters (omega (arith, el, valid .header .some-letters)) (omega (arith, el, valid .header .few-letters));
-        alike = sym el;
-        first-at = ap (λ (x : ℕ). 2 + x) en;
-        second-at = refl;
-        letters-are = el;
-        width-is = refl;
-        count-is = en ∙ sym (mul-one (stateCount b));
-      })
+  pub alike-nothing : {c : List ℕ} → c ≡ nothingBytes (letterCount b) → Alike b c
+  alike-nothing e =
+      subst (Alike b) (sym e)
+      (record { first = valid; second = nothing-valid (letterCount b) (valid .header .some-letters) (valid .header .few-letters); letters = refl })
 
-  pub empty-room : {letters n : ℕ} {c : List ℕ} → n ≡ stateCount b → c ≡ nothingBytes letters → Room b c n (emptyCells b)
-  empty-room {letters} {n} {c} en ec =
-      ap (λ (x : List ℕ). n + n * (widest (decode b) * widest (decode x))) ec
-      ∙ (ap (λ (k : ℕ). n + n * (widest (decode b) * k)) (nothing-widest letters)
-      ∙ (ap (λ (k : ℕ). n + n * k) (mul-one (widest (decode b))) ∙ ap (λ (x : ℕ). x + x * widest (decode b)) en))
-
-  pub beside-nothing : {letters n : ℕ} {c : List ℕ} (el : letters ≡ letterCount b) (en : n ≡ stateCount b) (ec : c ≡ nothingBytes letters)
-      → twin b c (record { first = 2 + n; second = 3; letters = letters; width = 1 }) n ≡ besideNothing b
-  beside-nothing el en ec = twin-is (empty-twin el en ec) ∙ ap (λ (x : List ℕ). product butNot (decode b) (decode x)) (ec ∙ ap nothingBytes el)
+  pub sizes-beside : {c : List ℕ} → c ≡ nothingBytes (letterCount b) → _≡_ {A = PairSizes} (record { letters = letterCount b; first = stateCount b; second = 1; pairs = stateCount b; widest = widest (decode b) }) (pairing.sizesOf b c)
+  sizes-beside e =
+      (λ i. record { letters = letterCount b; first = stateCount b; second = 1; pairs = sym (mul-one (stateCount b)) i; widest = (sym (mul-one (widest (decode b))) ∙ ap (λ (k : ℕ). widest (decode b) * k) (sym (nothing-widest (letterCount b)))) i })
+      ∙ ap (pairing.sizesOf b) (sym e)
 
 -- inclusion in it is emptiness
 module _ (F : Fdfa) (CF : Complete F) (some : 1 ≤ F .letters) (few : F .letters ≤ 32) where
@@ -177,7 +167,7 @@ module _ (F : Fdfa) (CF : Complete F) (some : 1 ≤ F .letters) (few : F .letter
   counted : {r : ℕ} → r ≡ emptiness F .reached → Counts (Reached (F .letters) (F .step)) (F .states) r
   counted e = subst (Counts (Reached (F .letters) (F .step)) (F .states)) (sym e) (reached-states F CF)
 
-  pub meets-empty : {o p : List ℕ} {r : Answer} → Shows (emptiness F .reached) (emptiness F .witness) o p r → MeetsEmpty F o p r
-  meets-empty (shows-none w e) = (counted e, empty-none F CF w)
-  meets-empty (shows-first w e a b) = (counted e, subst₂ (First (Accepted F)) (sym a) (sym b) (first-of (subst (Answers (Accepted F)) w (emptiness-answers F CF))))
-  meets-empty shows-refusal = tt
+  pub decides-empty : (w : List ℕ) {o p : List ℕ} {r : Outcome} → Shows (emptiness F .reached) (emptiness F .witness) o p r → DecidesEmptiness F (record { opening = o; period = p; work = w }) r
+  decides-empty x (shows-none w e) = (counted e, empty-none F CF w)
+  decides-empty x (shows-first w e a b) = (counted e, subst₂ (First (Accepted F)) (sym a) (sym b) (first-of (subst (Answers (Accepted F)) w (emptiness-answers F CF))))
+  decides-empty x shows-refusal = tt

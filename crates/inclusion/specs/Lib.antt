@@ -1,3 +1,2 @@
-pub mod Answers
-pub mod Tables
-pub mod Search
+pub mod Calls
+pub mod Nothing

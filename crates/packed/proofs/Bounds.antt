@@ -17,6 +17,10 @@ few-both p q = mul-le-mul p q
 pub part-few : {k s : ℕ} → k ≤ 32 → s ≤ 32 → k * (s + 1) ≤ 1056
 part-few {k} {s} p q = omega (arith, mul-add k s 1, few-both p q, mul-one k)
 
+-- the counts, by what the code has in its hands
+pub head-few : (b : List ℕ) (n s : ℕ) → Header b → n ≡ stateCount b → s ≡ letterCount b → (n ≤ 32) × (n * s ≤ 1024)
+head-few b n s h e d = (omega (arith, h .few-states), few-both (omega (arith, h .few-states)) (omega (arith, h .few-letters)))
+
 -- the part of q is followed by that of q + 1
 pub progress-next : (b : List ℕ) (q : ℕ) → progressAt b q + sizeOf b q * (letterCount b + 1) ≡ progressAt b (q + 1)
 unfolding progressAt sum

@@ -19,7 +19,7 @@ use Rattle.packed.proofs.Soundness.{valid-packable}
 use Rattle.slices.proofs.Tables.{length-tab, getD-first, getD-second, getD-tab, tab-getD, tab-same, rows-same, tab-append, rows-tab, sum-same, table-tab, length-rows, getD-rows, length-table, getD-table}
 
 -- a mark says its byte
-mark-byte : (x : ℕ) → x < 2 → mark (eqb x 1) ≡ x
+pub mark-byte : (x : ℕ) → x < 2 → mark (eqb x 1) ≡ x
 mark-byte zero h = refl
 mark-byte (suc zero) h = refl
 mark-byte (suc (suc x)) h = absurd (omega arith)

@@ -1,17 +1,14 @@
 -- The words of a search and the letters that they have, as lists in the order of shortlex. Assumes nothing.
-use mathlib.Core.Path.{_≡_, refl, ap, sym, subst, _∙_}
+use mathlib.Core.Path.{_≡_, refl, ap, sym, _∙_}
 use mathlib.Core.List.{List, [], _∷_, _++_, append-assoc}
-use mathlib.Core.Logic.{_⊎_, inl, inr}
 use Prim.Native.Nat.{ℕ, suc, _+_, _<_}
 use native.Mathlib.Omega.{arith}
 use lib.ListN.{length, length-append}
-use Rattle.fdfa.specs.Words.{done, below, Lex, differ, agree, Shortlex, shorter, as-long, Before, by-prefix, by-period}
+use Rattle.fdfa.specs.Words.{done, below, Lex, differ, agree, Shortlex, shorter, as-long}
 use Rattle.fdfa.specs.Words as lists
 use Rattle.fdfa.specs.Family.{walk}
-use Rattle.fdfa.specs.Inclusion as lassos
 use Rattle.fdfa.proofs.Words.{over-append, walk-append}
-use Rattle.search.specs.Snoc.{Word, ε, _·_, _⊏_, _⊑_, short, front, last, same, less, run, Over, size, letters}
-use Rattle.search.specs.Paths.{First}
+use Rattle.search.specs.Words.{Word, ε, _·_, _⊏_, short, front, last, run, Over, size, letters}
 
 pub letters-over : {s : ℕ} (w : Word) → Over s w → lists.Over s (letters w)
 letters-over ε o = done
@@ -80,25 +77,3 @@ ordered (front {v = v} {w = w} {a = a} {b = b} p) = by (ordered p)
         shorter k
     by (as-long e p) = as-long (length-snoc (letters v) a ∙ (ap suc e ∙ sym (length-snoc (letters w) b))) (lex-front a b p)
 ordered (last {w = w} {a = a} {b = b} h) = as-long (length-snoc (letters w) a ∙ sym (length-snoc (letters w) b)) (lex-last (letters w) h)
-
-upto : (v : Word) (l : List ℕ) (w : Word) → v ⊑ w → letters w ≡ l → (letters v ≡ l) ⊎ Shortlex (letters v) l
-upto v l w same e = inl e
-upto v l w (less p) e = inr (subst (Shortlex (letters v)) e (ordered p))
-
--- the first of some lassos, by their letters
-pub first-letters : {P : List ℕ → List ℕ → Type 0} {u v : Word} → First (λ u v. P (letters u) (letters v)) u v → lassos.First P (letters u) (letters v)
-first-letters {P} {u} {v} F = record { has = F .is; least = λ u′ v′ p. least u′ v′ (F .least (word u′) (word v′) (back u′ v′ p)) }
-  where
-    back : (u′ v′ : List ℕ) → P u′ v′ → P (letters (word u′)) (letters (word v′))
-    back u′ v′ p = subst (λ (x : List ℕ). P x (letters (word v′))) (sym (letters-word u′)) (subst (P u′) (sym (letters-word v′)) p)
-
-    least : (u′ v′ : List ℕ) → (u ⊏ word u′) ⊎ ((u ≡ word u′) × (v ⊑ word v′)) → ((letters u ≡ u′) × (letters v ≡ v′)) ⊎ Before (letters u) (letters v) u′ v′
-    least u′ v′ (inl p) = inr (by-prefix (subst (Shortlex (letters u)) (letters-word u′) (ordered p)))
-    least u′ v′ (inr (e, q)) = by (upto v v′ (word v′) q (letters-word v′))
-      where
-        d : letters u ≡ u′
-        d = ap letters e ∙ letters-word u′
-
-        by : (letters v ≡ v′) ⊎ Shortlex (letters v) v′ → ((letters u ≡ u′) × (letters v ≡ v′)) ⊎ Before (letters u) (letters v) u′ v′
-        by (inl g) = inl (d, g)
-        by (inr g) = inr (by-period d g)

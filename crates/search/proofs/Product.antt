@@ -2,7 +2,7 @@
 use mathlib.Core.Path.{_≡_, refl, ap₂}
 use Prim.Native.Nat.{ℕ, _+_, _*_, _<_}
 use lib.Arith.{digits-div, digits-mod}
-use Rattle.search.specs.Snoc.{Word, ε, _·_, run, Over}
+use Rattle.search.specs.Words.{Word, ε, _·_, run, Over}
 use Rattle.fdfa.specs.Boolean.{beside}
 use Rattle.fdfa.specs.Family.{Closed}
 

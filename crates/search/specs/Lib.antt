@@ -1,4 +1,4 @@
-pub mod Snoc
-pub mod Cells
+pub mod Words
+pub mod Queue
 pub mod Search
 pub mod Paths

@@ -1,38 +1,33 @@
-// A breadth-first search that keeps its queue in cells: visiting a state, and reading a state or its first word back.
-ghost use mathlib.Core.Path.{_≡_};
-ghost use Prim.Native.Nat.{_≤_, _<_};
-ghost use lib.ListN.{length, replicate};
-ghost use Rattle.search.specs.Cells.{pack, stateAt, CanDiscover, Discovered};
-ghost use Rattle.search.specs.Paths.{Readable, Deep, Filled};
+// A breadth-first search over two automata side by side, which keeps its queue in lent cells: expanding a state by all letters, the
+// search to its end, and reading a state or its first word back.
+mod reading; // reading.rt: a code's word, read back
 
-fn entry(state: usize, letter: usize, parent: usize) -> u64
-    requires { ⌜ (state < 1048576) × (letter < 32) × (parent ≤ 1048576) ⌝ }
-    ensures { λ r. ⌜ r ≡ pack state letter parent ⌝ }
-{
-    (state + 1048576 * (letter + 32 * parent)) as u64
+pub use reading::depth;
+pub use reading::fill;
+use slices::wide;
+use slices::wide16;
+ghost use mathlib.Core.Path.{_≡_};
+ghost use Prim.Native.Nat.{_%_, _≤_, _<_};
+ghost use lib.ListN.{length, replicate};
+ghost use Rattle.search.specs.Queue.{placeAt, stateAt};
+ghost use Rattle.search.specs.Search.{Aim, joint, Ready, Searchable, Expanded, Explored};
+
+// How the search goes on: with so many codes found, or an ending met, by its code.
+pub enum Expansion {
+    On(usize),
+    Ending(usize),
 }
 
-// Enters a state in the queue, unless it was visited before; `total` codes become as many as it returns.
-pub fn discover(
-    cells: &mut [u64],
-    total: usize,
-    state: usize,
-    letter: usize,
-    parent: usize,
-) -> usize
-    requires { ⌜ CanDiscover (now cells) total state letter parent ⌝ }
-    ensures { λ r. ⌜ Discovered (now (cells .entry)) total state (pack state letter parent) (now (cells .exit)) r ⌝ }
+// The state of a code, and its row above it.
+fn place_of(cells: &[u64], code: usize, root: usize) -> usize
+    requires { ⌜ code ≤ length (now cells) ⌝ }
+    ensures { λ r. ⌜ r ≡ placeAt root (now (cells .entry)) code ⌝ }
 {
-    let c = cells[state];
-    if c % 2 == 0 {
-        cells[state] = c + 1;
-        let at = total - 1;
-        let d = cells[at];
-        let e = entry(state, letter, parent);
-        cells[at] = d % 2 + 2 * e;
-        total + 1
+    if code == 0 {
+        root
     } else {
-        total
+        let c = cells[code - 1];
+        (c % 1073741824) as usize
     }
 }
 
@@ -41,12 +36,78 @@ pub fn state_of(cells: &[u64], code: usize, root: usize) -> usize
     requires { ⌜ code ≤ length (now cells) ⌝ }
     ensures { λ r. ⌜ r ≡ stateAt root (now (cells .entry)) code ⌝ }
 {
-    if code == 0 {
-        root
-    } else {
-        let c = cells[code - 1];
-        (c / 2 % 1048576) as usize
+    place_of(cells, code, root) % 1048576
+}
+
+// Expands the code `head` by every letter in its order. Each next state is entered at the queue's tail, and the tail moves on by the
+// state's mark, which is 0 once the state was met; a mark of 2 ends the search. The next state is leads + width × rows.
+pub fn expand(
+    leads: &[u16],
+    rows: &[u16],
+    width: usize,
+    letters: usize,
+    root: usize,
+    head: usize,
+    total: usize,
+    marks: &mut [u8],
+    cells: &mut [u64],
+) -> Expansion
+    requires { ⌜ Searchable (now leads) (now rows) width letters root (now marks) (now cells) total head × (head < total) ⌝ }
+    ensures { λ r. ⌜ ((aim : Aim)
+        → Ready (now (leads .entry)) (now (rows .entry)) width letters root (now (marks .entry)) (now (cells .entry)) total head aim
+        → Expanded (joint (now (leads .entry)) (now (rows .entry)) width letters root aim) (now (marks .exit)) (now (cells .exit)) head r) ⌝ }
+{
+    let place = place_of(cells, head, root);
+    let row = place / 1048576;
+    let from = row * letters;
+    let lead = (place % 1048576 - row * width) * letters;
+    let mut codes = total;
+    let mut a = 0;
+    while a < letters {
+        let next = wide16(leads[lead + a]) + wide16(rows[from + a]) * (width + 1048576);
+        cells[codes - 1] = (next + 1073741824 * (a + 32 * head)) as u64;
+        let x = next % 1048576;
+        let m = marks[x];
+        marks[x] = 0;
+        if m == 2 {
+            return Expansion::Ending(codes);
+        }
+        codes += wide(m);
+        a += 1;
     }
+    Expansion::On(codes)
+}
+
+// Searches until an ending is met or every code is expanded.
+pub fn explore(
+    leads: &[u16],
+    rows: &[u16],
+    width: usize,
+    letters: usize,
+    root: usize,
+    marks: &mut [u8],
+    cells: &mut [u64],
+) -> Expansion
+    requires { ⌜ Searchable (now leads) (now rows) width letters root (now marks) (now cells) 1 0 ⌝ }
+    ensures { λ r. ⌜ ((aim : Aim)
+        → Ready (now (leads .entry)) (now (rows .entry)) width letters root (now (marks .entry)) (now (cells .entry)) 1 0 aim
+        → Explored (joint (now (leads .entry)) (now (rows .entry)) width letters root aim) (now (marks .exit)) (now (cells .exit)) r) ⌝ }
+{
+    let mut total = 1;
+    let mut head = 0;
+    while head < total {
+        let step = expand(leads, rows, width, letters, root, head, total, marks, cells);
+        match step {
+            Expansion::Ending(code) => {
+                return Expansion::Ending(code);
+            }
+            Expansion::On(codes) => {
+                total = codes;
+            }
+        }
+        head += 1;
+    }
+    Expansion::On(total)
 }
 
 pub fn clear(cells: &mut [u64])
@@ -59,33 +120,13 @@ pub fn clear(cells: &mut [u64])
     }
 }
 
-// The number of letters of a code's word.
-pub fn depth(cells: &[u64], code: usize) -> usize
-    requires { ⌜ Readable (now cells) code ⌝ }
-    ensures { λ r. ⌜ Deep (now (cells .entry)) code r ⌝ }
+// Marks every state as not met.
+pub fn refresh(marks: &mut [u8])
+    ensures { λ _. ⌜ now (marks .exit) ≡ replicate (length (now (marks .entry))) 1 ⌝ }
 {
-    let mut c = code;
-    let mut d = 0;
-    while c > 0 {
-        let e = cells[c - 1] / 2;
-        c = (e / 33554432) as usize;
-        d += 1;
-    }
-    d
-}
-
-// The letters of a code's word, written from the last to the first.
-pub fn fill(cells: &[u64], code: usize, len: usize, out: &mut [u8])
-    requires { ⌜ Deep (now cells) code len ⌝ }
-    requires { ⌜ (code ≤ length (now cells)) × (len ≤ length (now out)) ⌝ }
-    ensures { λ _. ⌜ Filled (now (cells .entry)) code len (now (out .entry)) (now (out .exit)) ⌝ }
-{
-    let mut c = code;
-    let mut at = len;
-    while at > 0 {
-        let e = cells[c - 1] / 2;
-        at -= 1;
-        out[at] = (e / 1048576 % 32) as u8;
-        c = (e / 33554432) as usize;
+    let mut i = 0;
+    while i < marks.len() {
+        marks[i] = 1;
+        i += 1;
     }
 }

@@ -8,7 +8,7 @@ use lib.ListN.{length, take, drop, set, length-set, length-append, length-drop, 
 use lib.Seq.{length-take-le, take-all, take-append-seam, drop-append-seam, drop-append-add, drop-drop, drop-cons, set-append-seam}
 use Rattle.slices.specs.Filling.{written}
 use Rattle.slices.specs.Tables.{tab, rows}
-use Rattle.slices.proofs.Tables.{length-tab}
+use Rattle.slices.proofs.Tables.{length-tab, rows-within}
 
 pub written-none : (old : List ℕ) → old ≡ written [] old
 unfolding written
@@ -132,7 +132,6 @@ filling-more {m} {f} {old} {out} {i} v s h d = record { room = s .room; upto = o
 pub filling-all : {m : ℕ} {f : ℕ → ℕ} {old out : List ℕ} {i : ℕ} → Filling m f old out i → m ≤ i → out ≡ written (tab m f) old
 filling-all {m} {f} {old} {out} {i} s h = let e : i ≡ m = omega (arith, s .upto) in s .cells ∙ ap (λ (k : ℕ). written (tab k f) old) e
 
--- rows, one after the other: the first x of them are written
 pub rows-begin : (f : ℕ → List ℕ) (old : List ℕ) → Begun (rows 0 f) old old
 unfolding rows
 rows-begin f old = begun-none old
@@ -140,3 +139,33 @@ rows-begin f old = begun-none old
 pub rows-next : (f : ℕ → List ℕ) (x : ℕ) → rows x f ++ f x ≡ rows (x + 1) f
 unfolding rows
 rows-next f x = ap (λ (k : ℕ). rows k f) (sym (add-one x))
+
+-- A slice of which the first x of m rows are filled; the next one begins at `at`, and is lent from there on.
+pub record RowFilling (m : ℕ) (f : ℕ → List ℕ) (old out : List ℕ) (at x : ℕ) : Type 0 where
+  pub room : length (rows m f) ≤ length old
+  pub upto : x ≤ m
+  pub begins : length (rows x f) ≡ at
+  pub begun : Begun (rows x f) old out
+
+pub rows-none : (m : ℕ) (f : ℕ → List ℕ) (old : List ℕ) → length (rows m f) ≤ length old → RowFilling m f old old 0 0
+unfolding rows
+rows-none m f old h = record { room = h; upto = omega arith; begins = refl; begun = begun-none old }
+
+module _ {m : ℕ} {f : ℕ → List ℕ} {old out : List ℕ} {at x : ℕ} (s : RowFilling m f old out at x) where
+  pub row-room : x < m → at + length (f x) ≤ length out
+  row-room h = omega (arith, rows-within m f x h, s .room, s .begins, s .begun .same)
+
+  pub row-lent : x < m → length (f x) ≤ length (take (length out - at) (drop at out))
+  row-lent h = let r = row-room h in omega (arith, r, lent-length {a = at} (s .begun) (omega (arith, r, s .begun .same)), s .begun .same)
+
+  pub rows-more : {k : ℕ} (last : List ℕ) → x < m → k ≡ length (f x) → last ≡ written (f x) (take (length out - at) (drop at out))
+      → RowFilling m f old (take at out ++ (last ++ drop (length out - at) (drop at out))) (at + k) (x + 1)
+  rows-more last h e l = record {
+    room = s .room;
+    upto = omega arith;
+    begins = sym (ap length (rows-next f x)) ∙ (length-append (rows x f) (f x) ∙ omega (arith, s .begins, e));
+    begun = begun-as (rows-next f x) (begun-more (f x) last (s .begun) (s .begins) (omega (arith, row-room h, s .begun .same)) l);
+  }
+
+  pub rows-all : m ≤ x → out ≡ written (rows m f) old
+  rows-all h = let e : x ≡ m = omega (arith, s .upto) in s .begun .cells ∙ ap (λ (k : ℕ). written (rows k f) old) e

@@ -1,10 +1,10 @@
 -- Tables of functions: their lengths, their entries, and how they join. Assumes nothing.
-use mathlib.Core.Path.{_≡_, refl, ap, ap₂, sym, _∙_}
+use mathlib.Core.Path.{_≡_, refl, ap, ap₂, sym, subst, _∙_}
 use mathlib.Core.List.{List, [], _∷_, _++_, append-nil, append-assoc}
-use Prim.Native.Nat.{ℕ, zero, suc, _+_, _*_, _-_, _≤_, _<_}
+use Prim.Native.Nat.{ℕ, zero, suc, _+_, _*_, _-_, _/_, _%_, _≤_, _<_}
 use native.Mathlib.Omega.{arith}
 use native.Mathlib.Decide.{ℕ-discrete}
-use native.Mathlib.Nat.{suc-mul, add-suc, add-zero}
+use native.Mathlib.Nat.{suc-mul, add-suc, add-zero, add-mul, one-mul, mul-le-mul-right, div-add-mod', div-lt-iff-lt-mul, mod-lt}
 use lib.ListN.{length, getD, length-append, List·getD-append}
 use lib.Seq.{getD-append-add, ext-getD}
 use Rattle.slices.specs.Tables.{tab, rows, sum, table}
@@ -113,6 +113,26 @@ getD-table k s f q a h l =
     ap (λ (n : ℕ). getD (table k s f) (n + a) 0)
     (sym (sum-same q (λ r. length (tab s (f r))) (λ r. s) (λ r i. length-tab s (f r)) ∙ sum-even q s))
     ∙ (getD-rows k (λ r. tab s (f r)) q a h (rw (length-tab s (f q)) l) ∙ getD-tab s (f q) a l)
+
+-- every entry of a table is below a bound, where the function's values are
+pub table-below : (k s : ℕ) (f : ℕ → ℕ → ℕ) (c : ℕ) → ((q a : ℕ) → q < k → a < s → f q a < c) → (i : ℕ) → i < k * s → getD (table k s f) i 0 < c
+table-below k zero f c h i l = absurd (omega arith)
+table-below k (suc s) f c h i l =
+    subst (λ (x : ℕ). getD (table k (suc s) f) x 0 < c) (div-add-mod' i (suc s))
+    (rw (getD-table k (suc s) f (i / suc s) (i % suc s) left right) (h (i / suc s) (i % suc s) left right))
+  where
+    left : i / suc s < k
+    left = div-lt-iff-lt-mul {k = suc s} (omega arith) .1 l
+
+    right : i % suc s < suc s
+    right = mod-lt i {m = suc s} (omega arith)
+
+-- rows of s entries: where the next one begins, and that each ends within all
+pub row-after : (x s : ℕ) → (x + 1) * s ≡ x * s + s
+row-after x s = omega (arith, add-mul x 1 s, one-mul s)
+
+pub row-end : (x m s : ℕ) → x < m → x * s + s ≤ m * s
+row-end x m s h = let l : x + 1 ≤ m = omega arith in omega (arith, mul-le-mul-right s l, row-after x s)
 
 -- a row and those before it are within the rows
 pub rows-within : (m : ℕ) (f : ℕ → List ℕ) (x : ℕ) → x < m → length (rows x f) + length (f x) ≤ length (rows m f)

@@ -3,6 +3,7 @@ mod copying; // copying.rt: copies of a slice
 mod scanning; // scanning.rt: the first byte of a slice that is out of a range
 
 pub use copying::copy;
+pub use copying::narrow_copy;
 pub use scanning::first_outside;
 pub use scanning::first_unknown;
 pub use scanning::is_outside;

@@ -1,0 +1,165 @@
+// The search for the first lasso: pairs of leading states, and for each the combinations with two progress states.
+use crate::Codes;
+use crate::marking::mark;
+use pairing::Beside;
+use search::Expansion;
+ghost use mathlib.Core.Path.{_≡_};
+ghost use mathlib.Core.Bool.{Bool, true, false};
+ghost use Prim.Native.Nat.{ℕ, _+_, _-_, _*_, _≤_, _<_};
+ghost use lib.ListN.{length, take};
+ghost use Rattle.search.specs.Words.{Word, ε, run, Over};
+ghost use Rattle.pairing.specs.Pairs.{Alike, leadsOf, sizesOf};
+ghost use Rattle.lasso_search.specs.Lassos.{difference};
+ghost use Rattle.lasso_search.specs.Codes.{Tabulated, Marked, Leads, Room, Prepared, Located};
+
+// Searches the leading states alone, the progress standing still; the number of those reached.
+fn reach(leads: &[u16], n: usize, letters: usize, marks: &mut [u8], cells: &mut [u64]) -> usize
+    requires { ⌜ ((f : ℕ → ℕ → ℕ) × Tabulated (now leads) n letters f) × (0 < n) × (length (now marks) ≡ n) × (length (now cells) ≡ n) ⌝ }
+    ensures { λ r. ⌜ ((f : ℕ → ℕ → ℕ) → Tabulated (now (leads .entry)) n letters f → Leads f letters n (take (n - 1) (now (cells .exit))) r) ⌝ }
+{
+    search::refresh(marks);
+    marks[0] = 0;
+    let still = [0u16; 32];
+    let found = search::explore(leads, &still, n, letters, 0, marks, cells);
+    match found {
+        Expansion::On(total) => total,
+        Expansion::Ending(_) => 1,
+    }
+}
+
+// Whether some period leads the progress automata to an ending, the leading state standing still.
+fn can_end(rows: &[u16], letters: usize, count: usize, marks: &mut [u8], cells: &mut [u64]) -> bool
+    requires { ⌜ ((f : ℕ → ℕ → ℕ) × Tabulated (now rows) count letters f) × ((e : ℕ → Bool) × Marked (now marks) 1 0 count e) × (0 < count) × (count + 1 ≤ length (now cells)) ⌝ }
+    ensures { λ r. ⌜ (r ≡ false → (f : ℕ → ℕ → ℕ) (e : ℕ → Bool) → Tabulated (now (rows .entry)) count letters f → Marked (now (marks .entry)) 1 0 count e
+        → (v : Word) → Over letters v → (v ≡ ε → ⊥) → e (run f 0 v) ≡ true → ⊥) ⌝ }
+{
+    let still = [0u16; 32];
+    let found = search::explore(&still, rows, 1, letters, 0, marks, cells);
+    match found {
+        Expansion::On(_) => false,
+        Expansion::Ending(_) => true,
+    }
+}
+
+// Makes the table and the marks for the search from the pair q of leading states. Says how many pairs of progress states it has, or 0
+// where no period from q is accepted.
+fn prepare(
+    first: &[u8],
+    second: &[u8],
+    t: Beside,
+    n: usize,
+    q: usize,
+    rows: &mut [u16],
+    marks: &mut [u8],
+    cells: &mut [u64],
+) -> usize
+    requires { ⌜ Alike (now first) (now second) × (t ≡ leadsOf (now first) (now second)) × (q < n) ⌝ }
+    requires { ⌜ Room (difference (now first) (now second)) n (length (now rows)) (length (now marks)) (length (now cells)) ⌝ }
+    ensures { λ r. ⌜ Prepared (difference (now (first .entry)) (now (second .entry))) n q (now (rows .exit)) (now (marks .exit)) r ⌝ }
+{
+    let p = q / t.width;
+    let r = q % t.width;
+    let g = pairing::progress(first, second, p, r);
+    let m = pairing::marks(first, second, p, r);
+    let count = packed::size(first, p) * g.width;
+    pairing::tabulate(first, second, g, count, rows);
+    mark(first, second, m, count, 1, 0, &mut marks[..count]);
+    if !can_end(rows, g.letters, count, &mut marks[..count], cells) {
+        return 0;
+    }
+    let all = count * n;
+    mark(first, second, m, count, n, q, &mut marks[..all]);
+    count
+}
+
+// The first lasso, by the codes that the cells have for it: the pairs of leading states in the order of their first prefixes, and for
+// each the combinations in the order of their first periods.
+fn find(
+    first: &[u8],
+    second: &[u8],
+    t: Beside,
+    n: usize,
+    marks: &mut [u8],
+    work: &mut [u64],
+) -> Codes
+    requires { ⌜ Alike (now first) (now second) × (t ≡ leadsOf (now first) (now second)) × (n ≡ difference (now first) (now second) .states) ⌝ }
+    requires { ⌜ Room (difference (now first) (now second)) n 32768 (length (now marks)) (length (now work) - (n - 1)) ⌝ }
+    ensures { λ r. ⌜ Located (difference (now (first .entry)) (now (second .entry))) (now (work .exit)) r ⌝ }
+{
+    let front = n - 1;
+    let mut leads = [0u16; 32768];
+    pairing::tabulate(first, second, t, n, &mut leads);
+    let reached = reach(&leads, n, t.letters, &mut marks[..n], &mut work[..n]);
+    let mut rows = [0u16; 32768];
+    let mut out = Codes::Absent(reached);
+    let mut i = 0;
+    'search: while i < reached {
+        let q = search::state_of(&work[..front], i, 0);
+        let count = prepare(first, second, t, n, q, &mut rows, marks, &mut work[front..]);
+        if count == 0 {
+            i += 1;
+            continue;
+        }
+        let all = count * n;
+        let mut total = 1;
+        let mut h = 0;
+        while h < total {
+            let step = search::expand(
+                &leads,
+                &rows,
+                n,
+                t.letters,
+                q,
+                h,
+                total,
+                &mut marks[..all],
+                &mut work[front..],
+            );
+            match step {
+                Expansion::Ending(code) => {
+                    out = Codes::Found(reached, i, code);
+                    break 'search;
+                }
+                Expansion::On(codes) => {
+                    total = codes;
+                }
+            }
+            h += 1;
+        }
+        i += 1;
+    }
+    out
+}
+
+// The search with marks for 8,192 combinations, and for as many as there can be.
+fn find_few(first: &[u8], second: &[u8], t: Beside, n: usize, work: &mut [u64]) -> Codes
+    requires { ⌜ Alike (now first) (now second) × (t ≡ leadsOf (now first) (now second)) × (n ≡ difference (now first) (now second) .states) ⌝ }
+    requires { ⌜ Room (difference (now first) (now second)) n 32768 8192 (length (now work) - (n - 1)) ⌝ }
+    ensures { λ r. ⌜ Located (difference (now (first .entry)) (now (second .entry))) (now (work .exit)) r ⌝ }
+{
+    let mut marks = [0u8; 8192];
+    find(first, second, t, n, &mut marks, work)
+}
+
+fn find_many(first: &[u8], second: &[u8], t: Beside, n: usize, work: &mut [u64]) -> Codes
+    requires { ⌜ Alike (now first) (now second) × (t ≡ leadsOf (now first) (now second)) × (n ≡ difference (now first) (now second) .states) ⌝ }
+    requires { ⌜ Room (difference (now first) (now second)) n 32768 1048576 (length (now work) - (n - 1)) ⌝ }
+    ensures { λ r. ⌜ Located (difference (now (first .entry)) (now (second .entry))) (now (work .exit)) r ⌝ }
+{
+    let mut marks = [0u8; 1048576];
+    find(first, second, t, n, &mut marks, work)
+}
+
+// The first lasso by its codes: of n pairs of leading states, and at most `widest` pairs of progress states with each.
+pub fn locate(first: &[u8], second: &[u8], n: usize, widest: usize, work: &mut [u64]) -> Codes
+    requires { ⌜ Alike (now first) (now second) × (n ≡ sizesOf (now first) (now second) .pairs) × (widest ≡ sizesOf (now first) (now second) .widest) ⌝ }
+    requires { ⌜ length (now work) ≡ n + n * widest ⌝ }
+    ensures { λ r. ⌜ Located (difference (now (first .entry)) (now (second .entry))) (now (work .exit)) r ⌝ }
+{
+    let t = pairing::leads(first, second);
+    if n * widest <= 8192 {
+        find_few(first, second, t, n, work)
+    } else {
+        find_many(first, second, t, n, work)
+    }
+}
