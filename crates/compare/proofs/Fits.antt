@@ -1,7 +1,6 @@
 -- A show that was found fits the lent slices. Assumes nothing.
 use mathlib.Core.Path.{_≡_, ap, sym, subst, _∙_}
 use mathlib.Core.Bool.{Bool, true, false}
-use mathlib.Core.List.{List}
 use Prim.Native.Nat.{ℕ, _≤_}
 use native.Mathlib.Omega.{arith}
 use lib.Dec.{ltb}
@@ -10,12 +9,13 @@ use borrow.Author.Tests.{ltb-false}
 use Rattle.slices.specs.declared.Part.the-variants.{Opening, Loop}
 use Rattle.fdfa.specs.Enumeration.{Witness, absent, lasso}
 use Rattle.fdfa.specs.Inclusion as model
-use Rattle.slices.specs.Refusals.{Fault, sound, _then_, when}
+use Rattle.slices.specs.Refusals.{Fault, sound, when}
 use Rattle.slices.proofs.Refusals.{then-left, then-right, when-sound, was-given}
-use Rattle.inclusion.specs.declared.Answer.{Answer}
-use Rattle.inclusion.specs.declared.Answer.the-variants.{Found}
-use Rattle.inclusion.specs.declared.Comparison.{Comparison}
-use Rattle.inclusion.specs.Answers.{Said, toldOf, saysOf, roomFault, Answered}
+use Rattle.lasso_search.specs.declared.Outcome.{Outcome}
+use Rattle.lasso_search.specs.declared.Outcome.the-variants.{Found}
+use Rattle.lasso_search.specs.declared.Comparison.{Comparison}
+use Rattle.lasso_search.specs.Lassos.{Report, reportOf, outcomeSays, Lent, roomFault}
+use Rattle.inclusion.specs.Calls.{Slices, lasso as lent, callFault, Settled}
 
 -- The lengths of a show are at most these.
 abbrev pub Within : Comparison → ℕ → ℕ → Type 0
@@ -26,20 +26,18 @@ False true = ⊥
 False false = Unit {0}
 
 -- Where nothing is refused and something is found, both parts of it fit.
-within :
-    (w : Witness) (o p r : ℕ) {z : Comparison}
-    → roomFault w o p ≡ sound → record { none = false; record-of = z } ≡ toldOf r w → Within z o p
-within absent o p r s e = absurd (subst False (ap (λ (x : Said). x .none) e) tt)
-within (lasso u v) o p r s e =
+within : (w : Witness) (l : Lent) (r : ℕ) {z : Comparison} → roomFault w l ≡ sound → record { none = false; numbers = z } ≡ reportOf r w → Within z (length (l .opening)) (length (l .period))
+within absent l r s e = absurd (subst False (ap (λ (x : Report). x .none) e) tt)
+within (lasso u v) l r s e =
+    let o = length (l .opening) in
+    let p = length (l .period) in
     let f = when (ltb o (length u)) 23 Opening (length u) in
     let g = when (ltb p (length v)) 23 Loop (length v) in
     let k = ltb-false o (length u) (when-sound (ltb o (length u)) 23 Opening (length u) (then-left f g s)) in
-    let l = ltb-false p (length v) (when-sound (ltb p (length v)) 23 Loop (length v) (then-right f g s)) in
-    (omega (arith, k, ap (λ (x : Said). x .record-of .prefix) e), omega (arith, l, ap (λ (x : Said). x .record-of .period) e))
+    let m = ltb-false p (length v) (when-sound (ltb p (length v)) 23 Loop (length v) (then-right f g s)) in
+    (omega (arith, k, ap (λ (x : Report). x .numbers .prefix) e), omega (arith, m, ap (λ (x : Report). x .numbers .period) e))
 
-pub fits :
-    {start : Fault} {C : model.Comparison} {cells : ℕ} {o p w o′ p′ w′ : List ℕ} {r : Answer} {z : Comparison}
-    → Answered start C cells o p w o′ p′ w′ r → r ≡ Found z → Within z (length o) (length p)
-fits {start} {C} {o = o} {p = p} a e =
-    let g = was-given (start then roomFault (C .witness) (length o) (length p)) _ (sym (ap saysOf e) ∙ a .says) in
-    within (C .witness) (length o) (length p) (C .reached) (then-right start _ (g .0)) (g .1)
+pub fits : {start : Fault} {C : model.Comparison} {cells : ℕ} {before after : Slices} {r : Outcome} {z : Comparison} → Settled start C cells before after r → r ≡ Found z → Within z (length (before .opening)) (length (before .period))
+fits {start} {C} {before = before} a e =
+    let g = was-given (callFault start C before) _ (sym (ap outcomeSays e) ∙ a .says) in
+    within (C .witness) (lent before) (C .reached) (then-right start _ (g .0)) (g .1)

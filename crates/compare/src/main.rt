@@ -1,8 +1,8 @@
 // Compares the packed sheets `first.sheet` and `second.sheet` of the folder it is run in, and prints whether every show that the
 // first accepts is accepted by the second, or the first counter-show.
 use console::Length;
-use inclusion::Answer;
 use inclusion::Comparison;
+use inclusion::Outcome;
 use slices::wide;
 
 const SCENES: usize = 4096;
@@ -34,8 +34,8 @@ fn compare(first: &[u8], second: &[u8]) {
     let mut work = [0u64; CELLS];
     let answer = inclusion::compare(first, second, &mut opening, &mut period, &mut work);
     match answer {
-        Answer::Absent(c) => print_verdict(b"contained ", c),
-        Answer::Found(c) => {
+        Outcome::Absent(c) => print_verdict(b"contained ", c),
+        Outcome::Found(c) => {
             print_verdict(b"missing ", c);
             console::print(b"part scene\n");
             let u = c.prefix;
@@ -43,7 +43,7 @@ fn compare(first: &[u8], second: &[u8]) {
             print_scenes(b"opening ", &opening[..u]);
             print_scenes(b"loop ", &period[..v]);
         }
-        Answer::Refused(r) => console::print_refusal(r),
+        Outcome::Refused(r) => console::print_refusal(r),
     }
 }
 

@@ -12,7 +12,7 @@ use Rattle.fdfa.proofs.Emptiness.{answers-unique, answers-map}
 use Rattle.fdfa.proofs.Inclusion.{butNot, accepted-counterexample, counterexample-accepted, comparison-answers, contained-all}
 use Rattle.fdfa.proofs.Reach.{counts-unique, reached-states, reached-pairs}
 use Rattle.lasso_search.specs.declared.Outcome.{Outcome}
-use Rattle.inclusion.specs.Calls.{Slices, DecidesInclusion}
+use Rattle.inclusion.specs.Calls.{DecidesInclusion}
 use Rattle.inclusion.proofs.Settling.{Shows, shows-none, shows-first, shows-refusal}
 
 module _ (F G : Fdfa) (alike : F .letters ≡ G .letters) (CF : Complete F) (CG : Complete G) where
@@ -36,8 +36,8 @@ module _ (F G : Fdfa) (alike : F .letters ≡ G .letters) (CF : Complete F) (CG 
   counted e = subst (Counts (ReachedPair F G) (pairs F G)) (sym e) (reached-pairs F G alike CF CG)
 
   -- the third demand, whatever the answer is
-  pub decides : (w : List ℕ) {o p : List ℕ} {r : Outcome} → Shows (comparison F G .reached) (comparison F G .witness) o p r → DecidesInclusion F G (record { opening = o; period = p; work = w }) r
-  decides x (shows-none w e) = (counted e, none-of (subst (Answers (Counterexample F G)) w (comparison-answers F G alike CF CG)), λ TF TG. contained-all F G alike CF CG TF TG w)
-  decides x (shows-first w e a b) =
+  pub decides : {o p : List ℕ} {r : Outcome} → Shows (comparison F G .reached) (comparison F G .witness) o p r → DecidesInclusion F G (record { opening = o; period = p }) r
+  decides (shows-none w e) = (counted e, none-of (subst (Answers (Counterexample F G)) w (comparison-answers F G alike CF CG)), λ TF TG. contained-all F G alike CF CG TF TG w)
+  decides (shows-first w e a b) =
       (counted e, subst₂ (First (Counterexample F G)) (sym a) (sym b) (first-of (subst (Answers (Counterexample F G)) w (comparison-answers F G alike CF CG))))
-  decides x shows-refusal = tt
+  decides shows-refusal = tt

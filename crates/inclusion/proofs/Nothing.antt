@@ -27,7 +27,7 @@ use Rattle.pairing.specs.declared.PairSizes.{PairSizes}
 use Rattle.pairing.specs.Pairs as pairing
 use Rattle.pairing.specs.Pairs.{Alike}
 use Rattle.lasso_search.specs.declared.Outcome.{Outcome}
-use Rattle.inclusion.specs.Calls.{Slices, DecidesEmptiness}
+use Rattle.inclusion.specs.Calls.{DecidesEmptiness}
 use Rattle.inclusion.specs.Nothing.{nothingBytes}
 use Rattle.inclusion.proofs.Settling.{Shows, shows-none, shows-first, shows-refusal}
 
@@ -167,7 +167,7 @@ module _ (F : Fdfa) (CF : Complete F) (some : 1 ≤ F .letters) (few : F .letter
   counted : {r : ℕ} → r ≡ emptiness F .reached → Counts (Reached (F .letters) (F .step)) (F .states) r
   counted e = subst (Counts (Reached (F .letters) (F .step)) (F .states)) (sym e) (reached-states F CF)
 
-  pub decides-empty : (w : List ℕ) {o p : List ℕ} {r : Outcome} → Shows (emptiness F .reached) (emptiness F .witness) o p r → DecidesEmptiness F (record { opening = o; period = p; work = w }) r
-  decides-empty x (shows-none w e) = (counted e, empty-none F CF w)
-  decides-empty x (shows-first w e a b) = (counted e, subst₂ (First (Accepted F)) (sym a) (sym b) (first-of (subst (Answers (Accepted F)) w (emptiness-answers F CF))))
-  decides-empty x shows-refusal = tt
+  pub decides-empty : {o p : List ℕ} {r : Outcome} → Shows (emptiness F .reached) (emptiness F .witness) o p r → DecidesEmptiness F (record { opening = o; period = p }) r
+  decides-empty (shows-none w e) = (counted e, empty-none F CF w)
+  decides-empty (shows-first w e a b) = (counted e, subst₂ (First (Accepted F)) (sym a) (sym b) (first-of (subst (Answers (Accepted F)) w (emptiness-answers F CF))))
+  decides-empty shows-refusal = tt

@@ -25,9 +25,13 @@ pub record Slices : Type 0 where
   pub period : List ℕ
   pub work : List ℕ
 
+-- Those that the lasso is written to.
+abbrev pub lasso : Slices → Lent
+lasso l = record { opening = l .opening; period = l .period }
+
 -- What a call can be refused for: before the search, or for the lasso's room.
 abbrev pub callFault : Fault → model.Comparison → Slices → Fault
-callFault start C l = start then roomFault (C .witness) (record { opening = l .opening; period = l .period })
+callFault start C l = start then roomFault (C .witness) (lasso l)
 
 -- What a call says and leaves in the lent slices, where `start` is its refusal before the search, C its answer and `cells` what the
 -- search needs: the lasso is written where both parts of it fit, and the cells are 0 from the search on.
@@ -47,7 +51,7 @@ compareStart b c work = pairFault b c then when (ltb work (compareCells b c)) 22
 -- The third demand. R counts the pairs that prefixes of whatever length reach. Absent: no lasso, of whatever length, closes
 -- in both, is accepted by the first and rejected by the second, and where both are turn-proof no lasso at all is accepted
 -- by the first and rejected by the second. Found: the first of all those that close in both.
-abbrev pub DecidesInclusion : Fdfa → Fdfa → Slices → Outcome → Type 0
+abbrev pub DecidesInclusion : Fdfa → Fdfa → Lent → Outcome → Type 0
 DecidesInclusion F G after (Absent z) =
     Counts (ReachedPair F G) (pairs F G) (z .reached)
     × ((u v : List ℕ) → Counterexample F G u v → ⊥)
@@ -60,7 +64,7 @@ DecidesInclusion F G after (Refused r) = Unit {0}
 -- The comparison of two sheets.
 pub record Compared (b c : List ℕ) (before after : Slices) (r : Outcome) : Type 0 where
   pub settles : Settled (compareStart b c (length (before .work))) (comparison (decode b) (decode c)) (compareCells b c) before after r
-  pub decides : DecidesInclusion (decode b) (decode c) after r
+  pub decides : DecidesInclusion (decode b) (decode c) (lasso after) r
 
 -- Emptiness: n + n × K cells, K the size of the largest progress automaton; before the search: the sheet, 22.
 abbrev pub emptyCells : List ℕ → ℕ
@@ -71,7 +75,7 @@ emptyStart b work = sheetFault First b then when (ltb work (emptyCells b)) 22 Wo
 
 -- R counts the leading states that prefixes of whatever length reach. Absent: no lasso at all is accepted. Found: the first
 -- that closes and is accepted.
-abbrev pub DecidesEmptiness : Fdfa → Slices → Outcome → Type 0
+abbrev pub DecidesEmptiness : Fdfa → Lent → Outcome → Type 0
 DecidesEmptiness F after (Absent z) =
     Counts (Reached (F .letters) (F .step)) (F .states) (z .reached)
     × ((u v : List ℕ) → Lasso (F .letters) u v → accepts F u v ≡ true → ⊥)
@@ -83,4 +87,4 @@ DecidesEmptiness F after (Refused r) = Unit {0}
 -- The test of emptiness.
 pub record Emptied (b : List ℕ) (before after : Slices) (r : Outcome) : Type 0 where
   pub settles : Settled (emptyStart b (length (before .work))) (emptiness (decode b)) (emptyCells b) before after r
-  pub decides : DecidesEmptiness (decode b) after r
+  pub decides : DecidesEmptiness (decode b) (lasso after) r

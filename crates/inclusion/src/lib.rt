@@ -1,5 +1,6 @@
 // Inclusion of two sheets with the first counterexample, and emptiness of one.
-use lasso_search::Outcome;
+pub use lasso_search::Comparison;
+pub use lasso_search::Outcome;
 use lasso_search::first_lasso;
 use packed::Sizes;
 use packed::Validity;

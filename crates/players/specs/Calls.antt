@@ -5,47 +5,52 @@ use mathlib.Core.List.{List}
 use Prim.Native.Nat.{ℕ}
 use lib.Dec.{ltb}
 use lib.ListN.{length}
-use Rattle.fdfa.specs.Inclusion.{comparison}
+use Rattle.fdfa.specs.Inclusion as model
 use Rattle.slices.specs.Refusals.{Fault, _then_, Result, given, refused, unless}
 use Rattle.slices.specs.Filling.{filled}
 use Rattle.packed.specs.Layout.{decode}
-use Rattle.inclusion.specs.declared.Answer.{Answer}
-use Rattle.inclusion.specs.declared.Answer.the-variants.{Absent, Found, Refused}
-use Rattle.inclusion.specs.Answers.{Said, told, prefixOf, periodOf, roomFault, startFault, Meets}
+use Rattle.lasso_search.specs.declared.Outcome.{Outcome}
+use Rattle.lasso_search.specs.declared.Outcome.the-variants.{Absent, Found, Refused}
+use Rattle.lasso_search.specs.Lassos.{Report, reportOf, Lent, roomFault, prefixOf, periodOf}
+use Rattle.inclusion.specs.Calls.{compareStart, DecidesInclusion}
 use Rattle.players.specs.Layout.{compareNumbers, unlessShort, Told}
 
 -- The slices that are lent to be written, beside the two sheets.
-pub record Lent : Type 0 where
+pub record Slices : Type 0 where
   pub opening : List ℕ
   pub period : List ℕ
   pub answer : List ℕ
 
+abbrev pub lasso : Slices → Lent
+lasso l = record { opening = l .opening; period = l .period }
+
+abbrev pub answer : List ℕ → List ℕ → model.Comparison
+answer b c = model.comparison (decode b) (decode c)
+
 -- The refusals of a comparison with 8,192 cells, and what it says.
-abbrev pub compareFault : List ℕ → List ℕ → Lent → Fault
-compareFault b c lent =
-    startFault b c 8192
-    then roomFault (comparison (decode b) (decode c) .witness) (length (lent .opening)) (length (lent .period))
+abbrev pub compareFault : List ℕ → List ℕ → Slices → Fault
+compareFault b c l = compareStart b c 8192 then roomFault (answer b c .witness) (lasso l)
 
-abbrev pub compared : List ℕ → List ℕ → Lent → Result Said
-compared b c lent = unless (compareFault b c lent) (told (comparison (decode b) (decode c)))
+abbrev pub compared : List ℕ → List ℕ → Slices → Result Report
+compared b c l = unless (compareFault b c l) (reportOf (answer b c .reached) (answer b c .witness))
 
--- The answer that says so, as the third demand (`Meets`) speaks of it.
-abbrev pub answerOf : Result Said → Answer
-answerOf (given s) = answerGiven (s .none) s
+-- The outcome that says so, as the third demand (`DecidesInclusion`) speaks of it.
+abbrev pub outcomeOf : Result Report → Outcome
+outcomeOf (given s) = outcomeGiven (s .none) s
   where
-    answerGiven : Bool → Said → Answer
-    answerGiven true s = Absent (s .record-of)
-    answerGiven false s = Found (s .record-of)
-answerOf (refused r) = Refused r
+    outcomeGiven : Bool → Report → Outcome
+    outcomeGiven true s = Absent (s .numbers)
+    outcomeGiven false s = Found (s .numbers)
+outcomeOf (refused r) = Refused r
 
 -- What the call returns and leaves in the lent slices; the third demand holds of it where the answer slice is long enough.
-pub record Compared (b c : List ℕ) (before after : Lent) (r : ℕ) : Type 0 where
+pub record Compared (b c : List ℕ) (before after : Slices) (r : ℕ) : Type 0 where
   pub tells : Told 72 (compareNumbers (compared b c before)) (before .answer) (after .answer) r
-  pub prefix : after .opening
+  pub opening : after .opening
       ≡ unlessShort 72 (before .answer) (before .opening)
-      (filled (compareFault b c before) (prefixOf (comparison (decode b) (decode c) .witness)) (before .opening))
-  pub cycle : after .period
+      (filled (compareFault b c before) (prefixOf (answer b c .witness)) (before .opening))
+  pub period : after .period
       ≡ unlessShort 72 (before .answer) (before .period)
-      (filled (compareFault b c before) (periodOf (comparison (decode b) (decode c) .witness)) (before .period))
-  pub meets : ltb (length (before .answer)) 72 ≡ false
-      → Meets (decode b) (decode c) (after .opening) (after .period) (answerOf (compared b c before))
+      (filled (compareFault b c before) (periodOf (answer b c .witness)) (before .period))
+  pub decides : ltb (length (before .answer)) 72 ≡ false
+      → DecidesInclusion (decode b) (decode c) (lasso after) (outcomeOf (compared b c before))

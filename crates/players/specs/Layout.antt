@@ -12,8 +12,8 @@ use Rattle.slices.specs.Refusals.{Result, given, refused}
 use Rattle.slices.specs.Filling.{written}
 use Rattle.slices.specs.Tables.{tab, rows}
 use Rattle.packed.specs.Layout.{mark}
-use Rattle.inclusion.specs.declared.Comparison.{Comparison}
-use Rattle.inclusion.specs.Answers.{Said}
+use Rattle.lasso_search.specs.declared.Comparison.{Comparison}
+use Rattle.lasso_search.specs.Lassos.{Report}
 
 abbrev pub numberBytes : ℕ → List ℕ
 numberBytes x = tab 8 (λ i. x / 256 ^ i % 256)
@@ -39,8 +39,8 @@ verdictNumbers (refused r) = r .number ∷ partNumber (r .part) ∷ r .place ∷
 abbrev pub givenNumbers : ℕ → Comparison → List ℕ
 givenNumbers missing c = 0 ∷ missing ∷ c .reached ∷ c .prefix ∷ c .period ∷ 0 ∷ 0 ∷ 0 ∷ 0 ∷ []
 
-abbrev pub compareNumbers : Result Said → List ℕ
-compareNumbers (given s) = givenNumbers (cond (s .none) 0 1) (s .record-of)
+abbrev pub compareNumbers : Result Report → List ℕ
+compareNumbers (given s) = givenNumbers (cond (s .none) 0 1) (s .numbers)
 compareNumbers (refused r) = r .number ∷ partNumber (r .part) ∷ r .place ∷ 0 ∷ 0 ∷ 0 ∷ 0 ∷ 0 ∷ 0 ∷ []
 
 -- Where the answer slice has fewer cells than are needed nothing changes.

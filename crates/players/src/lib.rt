@@ -1,6 +1,6 @@
 // The calls for players in C: the verdict and the comparison over byte slices, the answer as numbers in one more lent slice.
-use inclusion::Answer;
 use inclusion::Comparison;
+use inclusion::Outcome;
 use membership::Judgement;
 use slices::Part;
 ghost use mathlib.Core.Path.{_≡_};
@@ -8,7 +8,7 @@ ghost use Prim.Native.Nat.{_*_, _≤_};
 ghost use lib.ListN.{length};
 ghost use Rattle.slices.specs.Filling.{written};
 ghost use Rattle.membership.specs.Verdict.{verdictOf, saysOf as judgementSays};
-ghost use Rattle.inclusion.specs.Answers.{saysOf as answerSays};
+ghost use Rattle.lasso_search.specs.Lassos.{outcomeSays};
 ghost use Rattle.players.specs.Layout.{partNumber, numberBytes, layout, verdictNumbers, givenNumbers, compareNumbers, Told};
 ghost use Rattle.players.specs.Calls.{Compared};
 
@@ -73,13 +73,13 @@ fn given_numbers(missing: u64, c: Comparison) -> [u64; 9]
     ]
 }
 
-fn compare_numbers(answer: Answer) -> [u64; 9]
-    ensures { λ r. ⌜ r ≡ compareNumbers (answerSays answer) ⌝ }
+fn compare_numbers(outcome: Outcome) -> [u64; 9]
+    ensures { λ r. ⌜ r ≡ compareNumbers (outcomeSays outcome) ⌝ }
 {
-    match answer {
-        Answer::Absent(c) => given_numbers(0, c),
-        Answer::Found(c) => given_numbers(1, c),
-        Answer::Refused(r) => {
+    match outcome {
+        Outcome::Absent(c) => given_numbers(0, c),
+        Outcome::Found(c) => given_numbers(1, c),
+        Outcome::Refused(r) => {
             let part = r.part;
             [
                 r.number as u64,

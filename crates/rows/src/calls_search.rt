@@ -12,13 +12,13 @@ use crate::total::at;
 use crate::total::cells_mut;
 use crate::total::front;
 use crate::total::front_mut;
-use inclusion::Answer;
+use inclusion::Outcome;
 
-fn compared(x: Answer) -> Says {
+fn compared(x: Outcome) -> Says {
     match x {
-        Answer::Absent(z) => gives(ABSENT, z.reached, z.prefix, z.period, 0),
-        Answer::Found(z) => gives(FOUND, z.reached, z.prefix, z.period, 0),
-        Answer::Refused(r) => refused(r),
+        Outcome::Absent(z) => gives(ABSENT, z.reached, z.prefix, z.period, 0),
+        Outcome::Found(z) => gives(FOUND, z.reached, z.prefix, z.period, 0),
+        Outcome::Refused(r) => refused(r),
     }
 }
 

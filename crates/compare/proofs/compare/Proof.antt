@@ -17,7 +17,7 @@ room :
     → let e = called c in Within (c .answer2 .given .0 .0) (length (e .compare .last .1 .1 .0)) (length (e .compare .last .1 .1 .1 .0))
 room c =
     let e = called c in
-    let f = fits (e .compare .ensures .0) (c .answer2 .given .1) in
+    let f = fits (e .compare .ensures .settles) (c .answer2 .given .1) in
     (omega (arith, f .0, e .compare .kept .1 .1 .0), omega (arith, f .1, e .compare .kept .1 .1 .1 .0))
 
 slice-aggregate-compare : tie.Need-slice-aggregate-compare

@@ -142,7 +142,7 @@ returns-3 c =
     let good : start ≡ sound = cells-suffice (sized m .0) (cells-is m) (e .if1 .left) in
     record {
       settles = settled-reports start (C h) (compareCells (b h) (d h)) (before h) good D we re (f .first-lasso .ensures .1 ∙ ap (λ (x : ℕ). replicate x 0) (length-take-le _ _ (e .if1 .left))) (cells-is m);
-      decides = decides F G (A .letters) CF CG _ (reports-shows start (C h) (compareCells (b h) (d h)) (before h) good D we re);
+      decides = decides F G (A .letters) CF CG (reports-shows start (C h) (compareCells (b h) (d h)) (before h) good D we re);
     }
 
 pub compare-spec : {M : Type 1} → statement M

@@ -136,7 +136,7 @@ returns-3 c =
     let good : start ≡ sound = cells-suffice (sized m .0) (cells-is m) (e .if1 .left) in
     record {
       settles = settled-reports start (C h) (emptyCells (b h)) (before h) good D we re (f .accepted-lasso .ensures .1 ∙ ap (λ (x : ℕ). replicate x 0) (length-take-le _ _ (e .if1 .left))) (cells-is m);
-      decides = decides-empty F CF (v .header .some-letters) (v .header .few-letters) _ (reports-shows start (C h) (emptyCells (b h)) (before h) good D we re);
+      decides = decides-empty F CF (v .header .some-letters) (v .header .few-letters) (reports-shows start (C h) (emptyCells (b h)) (before h) good D we re);
     }
 
 pub emptiness-spec : {M : Type 1} → statement M

@@ -47,8 +47,7 @@ returns-2 c =
     (a .compare .result)
     (e .if1 .left)
     refl
-    (a .compare .ensures .0)
-    (a .compare .ensures .1)
+    (a .compare .ensures)
     (c .before .before .put-numbers .ensures ∙ ap (λ (ns : List ℕ). written (layout ns) answer) (n .compare-numbers .ensures))
 
 pub fdfa-compare-spec : {M : Type 1} → statement M
