@@ -1,5 +1,6 @@
 //! What is timed.
 
+use crate::{captions, heavy};
 use outside::generate::{cycles, table, Draft, Shape};
 use outside::inclusion::{Inclusion, Search};
 use outside::naive;
@@ -70,16 +71,27 @@ fn period_of_turns(random: &mut Random, letters: usize, states: usize, turns: us
 const STATES: [usize; 2] = [8, 4];
 const SIZES: [usize; 2] = [17, 15];
 
+/// A number below a million as it is written.
+pub fn grouped(number: usize) -> String {
+    if number < 1000 {
+        number.to_string()
+    } else {
+        format!("{},{:03}", number / 1000, number % 1000)
+    }
+}
+
 pub fn comparisons() -> Vec<(String, Comparison)> {
     let mut comparisons = Vec::new();
     for letters in [4, 32] {
         let (comparison, met) = contained(letters);
         let name = format!(
-            "comparison, 8,192 cells, {letters} scenes, contained, {met} combinations met from each of 32 pairs"
+            "comparison, 8,192 cells, {letters} scenes, contained, {met} combinations met from each of 32 pairs, no ending in reach"
         );
         comparisons.push((name, comparison));
         let (comparison, prefix, period) = missing(letters);
-        let name = format!("comparison, 8,192 cells, {letters} scenes, missing late, opening {prefix}, loop {period}");
+        let name = format!(
+            "comparison, 8,192 cells, {letters} scenes, missing late, opening {prefix}, loop {period}, no ending in reach from other pairs"
+        );
         comparisons.push((name, comparison));
     }
     let mut random = Random::new(10);
@@ -87,7 +99,28 @@ pub fn comparisons() -> Vec<(String, Comparison)> {
     let second = cycles(1, 1, 32, false, &mut random).pack();
     comparisons
         .push(("comparison, 6,951 cells, 1 scene, missing, loop 6,944".to_string(), Comparison { first, second }));
+    for (letters, states, sizes) in [
+        (32, [32, 32], [7, 1]),
+        (4, [32, 32], [7, 1]),
+        (32, [16, 16], [5, 6]),
+        (2, [32, 1], [17, 15]),
+        (4, [32, 1], [17, 15]),
+    ] {
+        comparisons.push(heavy::contained(heavy::Sizes { letters, states, sizes }));
+    }
+    for letters in [2, 4] {
+        comparisons.push(heavy::missing(heavy::Sizes { letters, states: [32, 1], sizes: [17, 15] }));
+    }
+    comparisons.push(agreeing());
+    comparisons.extend(captions::comparisons());
     comparisons
+}
+
+/// A sheet in itself: from each pair that is reached the two progress automata go together.
+fn agreeing() -> (String, Comparison) {
+    let sheet = sheet_of_permutations(&mut Random::new(12), 32, 9);
+    let name = "comparison, 6,642 cells, 32 scenes, a sheet in itself, no ending in reach".to_string();
+    (name, Comparison { first: sheet.clone(), second: sheet })
 }
 
 /// Two sheets without marks whose letters permute all states, so that every pair and combination is met from everywhere; but the last

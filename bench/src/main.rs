@@ -3,6 +3,8 @@
 //! Prints a table for docs. Both sides are release builds for the common x86-64. Before the rounds each side is called once, so that
 //! memory is mapped and what fits in the caches is there; the two answers are compared at that time.
 
+mod captions;
+mod heavy;
 mod inputs;
 
 use inputs::{Comparison, Lasso};
