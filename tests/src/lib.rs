@@ -11,6 +11,7 @@ pub mod case;
 pub mod check;
 pub mod crash;
 pub mod cursor;
+pub mod driver;
 pub mod emptiness;
 pub mod generate;
 pub mod guarded;
