@@ -58,7 +58,11 @@ fn pair(random: &mut Random) -> (Vec<u8>, Vec<u8>) {
             let ((states1, states2), (size1, size2)) = ((few(random), few(random)), random.pick(&EDGES));
             (of_sizes(random, letters, states1, size1), of_sizes(random, letters, states2, size2))
         }
-        2 => (generate::sheet(random), generate::sheet(random)),
+        2 => {
+            let ((states1, states2), (size1, size2)) = (random.pick(&EDGES), random.pick(&EDGES));
+            (of_sizes(random, 1, states1, size1), of_sizes(random, 1, states2, size2))
+        }
+        3 => (generate::sheet(random), generate::sheet(random)),
         _ => (generate::sheet_of(random, letters, few), generate::sheet_of(random, other_letters, few)),
     };
     (first.pack(), second.pack())

@@ -3,7 +3,7 @@
 use crate::case::word;
 use crate::cursor::{self, Cursor, Playing};
 use crate::driver::calls::refused;
-use crate::driver::line::{byte_slices, number, print, NoCall};
+use crate::driver::line::{byte_slices, number, print, Cell, NoCall};
 use crate::driver::random_line::{contents, spelled};
 use crate::inclusion::Search;
 use crate::random::Random;
@@ -68,6 +68,7 @@ pub fn random_cursor(random: &mut Random, _: &mut Search) -> String {
         8 => random.draw() >> random.below(64),
         _ => random.below(length as usize + 1) as u64,
     };
+    let part = if random.once_in(50) { random.pick(&["Loop", "first", "cursor", "open", "loops", "0"]) } else { part };
     format!("{part} {position} {} {}", spelled(random, &prefix), spelled(random, &period))
 }
 
@@ -79,7 +80,7 @@ fn any_word(random: &mut Random) -> Vec<u8> {
             let length = random.between(1, 40);
             contents(random, length)
         }
-        6 if random.once_in(100) => contents(random, 300_000),
+        6 if random.once_in(100) => contents(random, u8::LONGEST),
         _ => word(random, 256),
     }
 }

@@ -9,7 +9,7 @@ const BYTES: &[u8] = b"0123456789,*-- # opening\t\r\0\x7f\xb1\xff";
 /// Words that are no argument, or only for some calls; the first is empty.
 const WORDS: &str =
     " - -- -,1 1,- , 1, ,1 1,,2 0*5 3* *3 * 1*1*1 1*- 256 1*256 01*2 2*01 00 01 -1 +1 1.5 0x1 1e3 65536 5,6*7,8 \
-    18446744073709551615 18446744073709551616 18446744073709551615*0 18446744073709551615*0,2*0 18446744073709551616*0 \
+    18446744073709551615 18446744073709551616 18446744073709551615*0 18446744073709551615*0,2*0 18446744073709551617*0 4294967297*5 \
     opening loop first Loop openings";
 
 /// A line with one place changed.
@@ -78,4 +78,26 @@ pub fn oddity(random: &mut Random) -> Vec<u8> {
         }
     };
     text.into_bytes()
+}
+
+#[cfg(test)]
+mod tests {
+    use super::*;
+    use crate::driver::calls::answer;
+    use crate::driver::session::random_lines;
+    use crate::inclusion::Search;
+
+    #[test]
+    fn every_line_has_an_answer_of_one_line() {
+        let mut random = Random::new(8);
+        let mut search = Search::default();
+        for sent in random_lines(9, 6000).filter(|sent| sent.line.len() < 3000) {
+            let mut line = sent.line;
+            for _ in 0..4 {
+                line = if line.is_empty() { oddity(&mut random) } else { damaged(&mut random, line) };
+                let printed = answer(&line, &mut search);
+                assert!(!printed.is_empty() && !printed.contains(&b'\n'));
+            }
+        }
+    }
 }

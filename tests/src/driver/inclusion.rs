@@ -42,7 +42,7 @@ fn answer(result: Result<Inclusion, Refusal>, absent: &str, found: &str) -> Stri
 /// After an answer, and at 23, the work cells that the search needs are 0. Any other refusal changes none.
 fn clear(work: &mut [u64], result: &Result<Inclusion, Refusal>, first: &[u8], second: &[u8]) {
     if matches!(result, Ok(_) | Err(Refusal { number: 23, .. })) {
-        let sheet = |bytes| Sheet::read(bytes, Part::First).ok().expect("the sheets were in order");
+        let sheet = |bytes| Sheet::read(bytes, Part::First).expect("the sheets were in order");
         work[..cells_needed(&sheet(first), &sheet(second))].fill(0);
     }
 }

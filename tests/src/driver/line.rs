@@ -1,19 +1,21 @@
 //! The words of a line: numbers and slices, read and printed.
 //!
-//! Where DRIVER.md is silent, these readings are taken:
-//! - A line is what stands between line feeds; every other byte, carriage returns too, belongs to it. Nothing follows the last line feed.
+//! Where DRIVER.md, the page on the driver's lines, is silent, these readings are taken:
+//! - A line is what stands between line feeds; every other byte, a carriage return too, belongs to it. After the last line feed there is
+//!   no line.
 //! - An empty line is no call. So is one with a space at its start or end, or with two spaces in a row: an empty word is no argument.
-//! - Names and parts are compared byte by byte: `Check` is no call.
+//! - Names and parts are compared byte by byte: `Check` is no call. Only a line whose first byte is `#` is a comment.
 //! - COUNT is a number like any other: `01*5` is no call, `1*5` is one cell. `-` stands alone: `-,5` is no call.
-//! - A slice of 2^40 cells or more is longer than any driver takes, so it is no call; counts are added up without wrapping.
-//! - What lies between the lengths that a driver takes at least and that is called `Long` here and is never sent.
+//! - Lent slices are printed after a refusal as after an answer.
+//! - What is longer than a driver takes at least may be a call for one driver and none for another: it is `Long`, and never sent. But a
+//!   slice of 2^32 cells or more is no call for any driver, and counts are added up without wrapping.
 
 use std::fmt::{Display, Write};
 
 /// The longest line and, in `Cell`, the longest slices that a driver takes at least.
 pub const LONGEST_LINE: usize = 1_048_576;
 /// No driver takes a slice of so many cells.
-const BEYOND_ALL: u64 = 1 << 40;
+const BEYOND_ALL: u64 = 1 << 32;
 
 /// Why a line is no call.
 #[derive(Clone, Copy, Debug, PartialEq, Eq)]
@@ -134,7 +136,7 @@ mod tests {
         for word in wrong {
             assert_eq!(slice::<u8>(word.as_bytes()), Err(NoCall::Wrong), "{word}");
         }
-        for word in ["18446744073709551615*1,2*1", "9223372036854775808*0,9223372036854775808*0", "1099511627776*0"] {
+        for word in ["18446744073709551615*1,2*1", "9223372036854775808*0,9223372036854775808*0,5", "4294967297*0"] {
             assert_eq!(slice::<u8>(word.as_bytes()), Err(NoCall::Wrong), "{word}");
         }
         assert_eq!(slice::<u8>(b"300000*7").map(|cells| cells.len()), Ok(300_000));

@@ -32,7 +32,7 @@ fn draw(random: &mut Random, search: &mut Search) -> Vec<u8> {
     match random.below(64) {
         0 => comment(random),
         1 => oddity(random),
-        2..=6 => {
+        2..=8 => {
             let line = call(random, search);
             damaged(random, line)
         }
@@ -55,12 +55,13 @@ fn comment(random: &mut Random) -> Vec<u8> {
 
 /// A lent byte slice with anything in it, about as long as is needed.
 pub fn lent(random: &mut Random, needed: usize) -> Vec<u8> {
-    let length = room_length(random, needed);
+    let length = if random.once_in(500) { u8::LONGEST } else { room_length(random, needed) };
     contents(random, length)
 }
 
 /// Lent work cells with anything in them, about as many as are needed but no more than a driver takes at least.
 pub fn lent_cells(random: &mut Random, needed: usize) -> Vec<u64> {
+    let needed = if random.once_in(100) { u64::LONGEST } else { needed };
     let length = room_length(random, needed).min(u64::LONGEST);
     runs(random, length, |random| match random.below(4) {
         0 => random.below(3) as u64,

@@ -1,5 +1,7 @@
 //! Sheets for the calls at random: in order, or with faults that are each aimed at one refusal.
 
+use crate::driver::line::Cell;
+use crate::driver::random_line::contents;
 use crate::generate::{self, Draft};
 use crate::mix::{garbage, of_sizes};
 use crate::random::Random;
@@ -18,6 +20,7 @@ pub fn in_order(random: &mut Random) -> Draft {
 pub fn sheet(random: &mut Random) -> Vec<u8> {
     match random.below(16) {
         0..=3 => faulty(random),
+        4 if random.once_in(32) => contents(random, u8::LONGEST),
         4 => garbage(random),
         _ => in_order(random).pack(),
     }

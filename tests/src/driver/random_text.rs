@@ -1,5 +1,6 @@
 //! Texts at random: digits with what may stand beside them, and sheets' texts with a fault in every kind of place.
 
+use crate::driver::line::Cell;
 use crate::random::Random;
 
 /// Digits of good and bad form, and what may stand beside them: the bytes next to the digits among them.
@@ -22,8 +23,7 @@ pub fn any_text(random: &mut Random) -> (Vec<u8>, usize) {
         }
     }
     if random.once_in(500) {
-        let length = random.between(1, 100_000);
-        text.extend(vec![b'0' + random.below(10) as u8; length]);
+        text.resize(u8::LONGEST, b'0' + random.below(10) as u8);
     }
     (text, random.pick(&places))
 }
@@ -95,7 +95,11 @@ fn other_number(random: &mut Random, word: &[u8]) -> Vec<u8> {
         1 => value.saturating_sub(1).to_string(),
         2 => format!("{}", value + 256),
         3 => format!("0{value}"),
-        4 => format!("{value}{}", random.pick(&["x", " ", "\r", "\t", ":", "/", ",", "."])),
+        4 => {
+            // In range or not: that is judged before the byte after the number.
+            let value = random.pick(&[value, value, 40, 999]);
+            format!("{value}{}", random.pick(&["x", " ", "\n", "\r", "\t", ":", "/", "."]))
+        }
         _ => random.pick(&OTHERS).to_string(),
     }
     .into_bytes()
@@ -131,6 +135,7 @@ fn with_other_lines(random: &mut Random, text: &[u8]) -> Vec<u8> {
 /// The text cut off somewhere, or going on.
 fn with_other_end(random: &mut Random, mut text: Vec<u8>) -> Vec<u8> {
     match random.below(4) {
+        0 if random.once_in(32) => text.resize(u8::LONGEST.max(text.len()), b'0'),
         0 => text.truncate(text.len() - 1),
         1..=2 => text.truncate(random.below(text.len())),
         _ => text.extend(random.pick(&[&b"\n"[..], b"0", b" ", b"\0", b"0 0 0 0\n", b"level scenes places\n"])),

@@ -1,4 +1,4 @@
-//! Lines to store, each with what the papers say of it: 01's rows, refusals of every number, READINGS' cases, lines that are no call.
+//! Lines to store, each with what the papers say of it: 01's rows, refusals of every number, cases that invite a mistake, no calls.
 //!
 //! What is stated is written by hand, from the papers; a test holds the independent implementation to it.
 
@@ -55,8 +55,9 @@ fn row(line: &str, stated: &str) -> Row {
 }
 
 /// Rows and, where nothing is stated, notes.
-fn table(rows: &[(&str, &str)]) -> Vec<Row> {
-    rows.iter().map(|&(line, stated)| if stated.is_empty() { note(line) } else { row(line, stated) }).collect()
+fn table(rows: &[(impl AsRef<str>, &str)]) -> Vec<Row> {
+    let made = |line: &str, stated: &str| if stated.is_empty() { note(line) } else { row(line, stated) };
+    rows.iter().map(|(line, stated)| made(line.as_ref(), stated)).collect()
 }
 
 fn expanded(word: &str) -> String {
@@ -85,6 +86,7 @@ fn plain(letters: usize, states: usize, size: usize, mark: u8) -> String {
 #[cfg(test)]
 mod tests {
     use super::*;
+    use crate::driver::coverage::Coverage;
 
     #[test]
     fn the_independent_implementation_prints_what_is_stated() {
@@ -97,6 +99,16 @@ mod tests {
             };
             assert!(agrees, "{}\n  stated {}\n  printed {printed}", row.line, row.stated);
         }
+    }
+
+    #[test]
+    fn every_outcome_of_every_call_has_a_row() {
+        let mut search = Search::default();
+        let mut coverage = Coverage::default();
+        for row in rows() {
+            coverage.add(row.line.as_bytes(), &answer(row.line.as_bytes(), &mut search));
+        }
+        assert_eq!(coverage.faults(1).join("\n"), "");
     }
 
     #[test]

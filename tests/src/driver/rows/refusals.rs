@@ -1,6 +1,7 @@
 //! A refusal of every number that a call can give, for each call; text refusals are in `texts`.
 
 use super::{note, plain, row, table, Row};
+use crate::driver::line::{self, print};
 
 /// Sheets with one fault each: the sheet, the refusal's number and its place.
 const FAULTS: [(&str, &str, &str); 14] = [
@@ -53,9 +54,11 @@ fn others() -> Vec<Row> {
     table(&[
         ("verdict: 9 opening, 8, 9 loop", ""),
         ("verdict B 0,2 1", "refused 9 opening 1"),
+        ("verdict B 0,2,1,3 1", "refused 9 opening 1"),
         ("verdict B 0 -", "refused 8 loop 0"),
         ("verdict B - -", "refused 8 loop 0"),
         ("verdict B - 0,1,7", "refused 9 loop 2"),
+        ("verdict B - 0,7,1,2", "refused 9 loop 1"),
         ("verdict B - 1000*1,255", "refused 9 loop 1000"),
         ("complement: 21, and just enough room", ""),
         ("complement A 7*9", "refused 21 out 8 | 7*9"),
@@ -75,6 +78,7 @@ fn others() -> Vec<Row> {
         ("emptiness E 7 2*8 6*9", "found 3 1 2 | 0 2*0 6*0"),
         ("emptiness 2,2*1,5*0 7 8 3*9", "empty 1 0 0 | 7 8 2*0,9"),
         ("emptiness 2,2*1,5*0 - - 2*9", "empty 1 0 0 | - - 2*0"),
+        ("emptiness 1,3,4*1,2,1,6*0 7 8 6*9", "empty 3 0 0 | 7 8 6*0"),
         ("cursor: 8, 24", ""),
         ("step opening 0 5 -", "refused 8 loop 0 cursor opening 0"),
         ("step loop 0 5 -", "refused 8 loop 0 cursor loop 0"),
@@ -97,6 +101,7 @@ fn products() -> Vec<Row> {
         rows.push(row(&format!("{call} A C 9*9"), "refused 7 second 0 | 9*9"));
         rows.push(row(&format!("{call} {three_six} {eleven_six} 9*9"), "refused 20 out 33 | 9*9"));
         rows.push(row(&format!("{call} {six} {six} 9*9"), "refused 20 out 36 | 9*9"));
+        rows.push(row(&format!("{call} {} {} 9*9", plain(1, 4, 3, 1), plain(1, 8, 11, 1)), "refused 20 out 33 | 9*9"));
         rows.push(row(&format!("{call} A B 10*9"), "refused 21 out 11 | 10*9"));
         // A has one loop place, which is marked: the product has the places of B, marked as B's or all.
         let product = format!("filled 11 | 2,1,2,2*0,1,0,2*1,{marks}");
@@ -104,26 +109,41 @@ fn products() -> Vec<Row> {
         rows.push(row(&format!("{call} A B 11*9"), &product));
         rows.push(row(&format!("{call} B A 12*9"), &format!("{product},9")));
     }
+    rows.push(note(
+        "products: pairs (p, q) have the number p x n2 + q, loop pairs likewise with the size of their own second automaton",
+    ));
+    // One scene. First: places 0 to 1 to 1; loops of 1 and 2 places. Second: places 0 to 2 to 1 to 0; loops of 3, 1 and 2 places.
+    let (first, second) = ("1,2,1,2,1,1,0,1,1,0,0,1", "1,3,3,1,2,2,0,1,1,2,0,1,0,0,0,1,1,1,0,1");
+    let head = "1,6,3,1,2,6,2,4,5,3,4,5,3,4";
+    let next = ["1,2,0", "0", "1,1", "4,5,3,1,2,0", "1,0", "3,3,1,1"];
+    let both = ["1,0,0", "1", "0,1", "0,0,0,1,0,0", "0,1", "0,0,0,1"];
+    let either = ["1,1,1", "1", "1,1", "1,0,0,1,1,1", "1,1", "0,1,1,1"];
+    for (call, marks) in [("intersection", both), ("union", either)] {
+        let automata: Vec<String> = next.iter().zip(marks).map(|(next, marks)| format!("{next},{marks}")).collect();
+        let product = line::slice::<u8>(format!("{head},{}", automata.join(",")).as_bytes()).unwrap_or_default();
+        let product = format!("filled {} | {},9", product.len(), print(&product));
+        rows.push(row(&format!("{call} {first} {second} 51*9"), &product));
+    }
     rows
 }
 
-/// READINGS 1: the order across a call, by lines with two faults or more.
+/// The order across a call, by lines with two faults or more.
 fn orders() -> Vec<Row> {
     let [many, more] = [plain(1, 3, 1, 1), plain(2, 11, 1, 1)];
     let eleven = plain(1, 11, 1, 1);
     let mut rows = table(&[
-        ("READINGS 1, order: the sheet before the show; opening 9, loop 8, loop 9", ""),
+        ("order: the sheet before the show; opening 9, loop 8, loop 9", ""),
         ("verdict 2,1,1,0,0,0,0,2 9 0", "refused 6 first 7"),
         ("verdict B 0,2 -", "refused 9 opening 1"),
         ("verdict B 2 2", "refused 9 opening 0"),
-        ("the sheet, the text before 21", ""),
+        ("order: the sheet, the text before 21", ""),
         ("complement 2,1,1,0,0,0,0,2 -", "refused 6 first 7 | -"),
         ("write 2,1,1,0,0,0,0,2 -", "refused 6 first 7 | -"),
         ("read 108,101 -", "refused 11 first 2 | -"),
-        ("first, second, 7, 20, 21", ""),
+        ("order: first, second, 7, 20, 21", ""),
         ("intersection 2,1,1,0,0,0,0,2 9 -", "refused 6 first 7 | -"),
         ("intersection C 2,1,1,0,0,0,0,2 -", "refused 6 second 7 | -"),
-        ("first, second, 7, 22, 23 opening, 23 loop", ""),
+        ("order: first, second, 7, 22, 23 opening, 23 loop", ""),
         ("compare 2,1,1,0,0,0,0,2 9 - - -", "refused 6 first 7 | - - -"),
         ("compare C 2,1,1,0,0,0,0,2 - - -", "refused 6 second 7 | - - -"),
         ("compare A C - - -", "refused 7 second 0 | - - -"),
@@ -131,11 +151,11 @@ fn orders() -> Vec<Row> {
         ("compare D E - - 12*9", "refused 23 opening 2 | - - 12*0"),
         ("emptiness E - - 5*9", "refused 22 work 6 | - - 5*9"),
         ("emptiness E - - 6*9", "refused 23 opening 1 | - - 6*0"),
-        ("cursor: 8, then 24", ""),
+        ("order: cursor 8, then 24", ""),
         ("step opening 9 - -", "refused 8 loop 0 cursor opening 9"),
         ("step loop 9 5 -", "refused 8 loop 0 cursor loop 9"),
     ]);
-    rows.push(note("7 before 20, 20 before 21"));
+    rows.push(note("order: 7 before 20, 20 before 21"));
     rows.push(row(&format!("union {many} {more} -"), "refused 7 second 0 | -"));
     rows.push(row(&format!("union {many} {eleven} -"), "refused 20 out 33 | -"));
     rows

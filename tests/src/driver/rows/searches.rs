@@ -1,4 +1,4 @@
-//! READINGS 2 to 10 and 13: stages of a sheet's check, searches, the order of lassos, verdicts, cursors.
+//! Stages of a sheet's check, searches, the order of lassos, verdicts, cursors.
 
 use super::{note, plain, row, table, Row};
 use crate::driver::line::print;
@@ -13,8 +13,8 @@ pub fn rows() -> Vec<Row> {
 }
 
 fn sheets_and_verdicts() -> Vec<Row> {
-    table(&[
-        ("READINGS 2: a packed sheet is judged in stages", ""),
+    let mut rows = table(&[
+        ("sheets: judged in stages, not by smallest byte", ""),
         ("check 0", "refused 1 first 1"),
         ("check 0,0", "refused 2 first 0"),
         ("check 1,33", "refused 3 first 1"),
@@ -22,16 +22,35 @@ fn sheets_and_verdicts() -> Vec<Row> {
         ("check 1,2,33,0", "refused 4 first 2"),
         ("check 2,1,1,9,9,9,9", "refused 1 first 7"),
         ("check 2,1,1,9,9,9,9,9,9", "refused 1 first 9"),
-        ("one scan for 5 and 6: a mark before a next place, a next place before a mark", ""),
+        ("sheets: one scan for 5 and 6: a mark before a next place, a next place before a mark", ""),
         ("check 1,2,1,1,0,0,0,9,9,9", "refused 6 first 7"),
         ("check 1,2,1,1,2,9,9,9,9,9", "refused 5 first 4"),
         ("check 1,2,1,1,1,1,1,2,0,0", "refused 5 first 6"),
-        ("READINGS 7: the place is that after u and i turns, the end that of its automaton after j turns", ""),
+        ("verdict: the place is that after u and i turns, the end that of its automaton after j turns", ""),
         ("verdict E 0 0,0", "accepted 0 1 1 0"),
         ("verdict D - 0", "accepted 0 2 0 0"),
         ("verdict D 0 0,0,0", "accepted 0 2 1 0"),
         ("verdict A 0,1,0,1 1,0", "accepted 0 1 0 0"),
-    ])
+    ]);
+    rows.push(note("verdict: 32 places one after the other, from the last on to the last, to place 20, to place 0"));
+    for (back, stated) in [(31, "31 1 31 1"), (20, "20 12 20 0"), (0, "0 32 0 0")] {
+        let verdict = if stated.ends_with(" 31 1") { "accepted" } else { "rejected" };
+        rows.push(row(&format!("verdict {} - 0", print(&winding(back))), &format!("{verdict} {stated}")));
+    }
+    rows.push(row(&format!("verdict {} 40*0 0,0", print(&winding(20))), "rejected 0 6 28 0"));
+    rows.push(row(&format!("verdict {} 3*0 33*0", print(&winding(0))), "rejected 0 32 3 0"));
+    rows
+}
+
+/// One scene and 32 places: each leads to the next, the last to the given one. Each loop automaton takes turns between two places, of
+/// which the second is marked.
+fn winding(back: u8) -> Vec<u8> {
+    let mut sheet = vec![1, 32];
+    sheet.extend([2; 32]);
+    sheet.extend(1..32);
+    sheet.push(back);
+    sheet.extend([1, 0, 0, 1].repeat(32));
+    sheet
 }
 
 /// A place that no opening reaches has 32 loop places; the other one accepts all. One scene.
@@ -54,28 +73,25 @@ fn small_searches() -> Vec<Row> {
         ("SHORTER_OPENING", SHORTER_OPENING),
     ];
     let mut rows = table(&[
-        ("READINGS 3: K is over all places, reached or not, in 20 and in 22", ""),
+        ("searches: K is over all places, reached or not, in 20 and in 22", ""),
         ("union UNREACHED C 9*9", "refused 20 out 64 | 9*9"),
         ("intersection C UNREACHED 9*9", "refused 20 out 64 | 9*9"),
         ("compare UNREACHED C 7 8 129*9", "refused 22 work 130 | 7 8 129*9"),
         ("compare UNREACHED C 7 8 130*9", "missing 1 0 1 | 7 0 130*0"),
         ("emptiness UNREACHED 7 8 65*9", "refused 22 work 66 | 7 8 65*9"),
         ("emptiness UNREACHED 7 8 66*9", "found 1 0 1 | 7 0 66*0"),
-        ("READINGS 4: 23 is for the first show, also where a later one would fit; READINGS 6: R counts all", ""),
+        ("searches: 23 is for the first show, also where a later one would fit; R counts what lies behind it too", ""),
         ("emptiness LATER 7 8 8*9", "refused 23 loop 2 | 7 8 8*0"),
         ("emptiness LATER 7 8,8 8*9", "found 2 0 2 | 7 2*0 8*0"),
         ("compare LATER 2,2*1,5*0 7 8,8 8*9", "missing 2 0 2 | 7 2*0 8*0"),
-        ("READINGS 5: the work cells come in with anything; those past N + N x K stay", ""),
+        ("searches: the work cells come in with anything; those past N + N x K stay", ""),
         (
             "compare D E 2*7 2*8 18446744073709551615,2*18446744073709551614,1,2,3,4,5,6,7,8,9,10,11",
             "missing 3 2 2 | 2*0 2*0 12*0,10,11",
         ),
         ("emptiness E 7 2*8 1,0,18446744073709551615,3,4,5,6", "found 3 1 2 | 0 2*0 6*0,6"),
         ("compare D C 9 9 1,2,3,4,5,6,7,8", "contained 2 0 0 | 9 9 6*0,7,8"),
-        (
-            "READINGS 8: the shorter loop 1 before 0 0; pairs by their first opening; the shorter opening 1 before 0 0",
-            "",
-        ),
+        ("searches: the shorter loop 1 before 0 0; pairs by their first opening; the shorter opening 1 before 0 0", ""),
         ("emptiness SHORTER_LOOP 7 8 5*9", "found 1 0 1 | 7 1 5*0"),
         ("emptiness PLACES_TURNED 7 8 6*9", "found 3 1 1 | 0 0 6*0"),
         ("emptiness SHORTER_OPENING 7 8 8*9", "found 4 1 1 | 1 0 8*0"),
@@ -94,13 +110,13 @@ fn large_searches() -> Vec<Row> {
     let full = plain(1, 32, 32, 0);
     let [wide, long] = [plain(1, 16, 31, 0), plain(1, 32, 1, 0)];
     let [turning0, turning1] = [turning(0), turning(1)].map(|sheet| print(&sheet));
-    let rows = [
-        ("READINGS 3: at most 1,049,600 cells".to_string(), ""),
+    table(&[
+        ("searches: at most 1,049,600 cells; the most that a line takes, and one fewer".to_string(), ""),
         (format!("compare {full} {full} - - -"), "refused 22 work 1049600 | - - -"),
         (format!("emptiness {full} - - 1056*5"), "empty 1 0 0 | - - 1056*0"),
         (format!("compare {wide} {long} 9 9 16384*9"), "contained 1 0 0 | 9 9 16384*0"),
         (format!("compare {wide} {long} 9 9 16383*9"), "refused 22 work 16384 | 9 9 16383*9"),
-        ("READINGS 9: a loop of 6,944, one of 14,880".to_string(), ""),
+        ("searches: a loop N x K long, of 6,944, of 14,880".to_string(), ""),
         (format!("compare {seven} {against} - 6944*9 6951*9"), "missing 7 0 6944 | - 6944*0 6951*0"),
         (
             format!("compare {seven} {against} 4096*9 4096*9 8192*9"),
@@ -108,12 +124,11 @@ fn large_searches() -> Vec<Row> {
         ),
         (format!("compare {seven} {against} - 6944*9 6950*9"), "refused 22 work 6951 | - 6944*9 6950*9"),
         (format!("compare {fifteen} {against} - 14881*9 14895*9"), "missing 15 0 14880 | - 14880*0,9 14895*0"),
-        ("READINGS 13: R reaches 1,024".to_string(), ""),
+        ("searches: R reaches 1,024; an opening of 62".to_string(), ""),
         (format!("compare {turning0} {turning1} 62*9 32*9 2048*9"), "missing 1024 62 32 | 31*0,31*1 32*0 2048*0"),
         (format!("compare {turning0} {turning1} 61*9 32*9 2048*9"), "refused 23 opening 62 | 61*9 32*9 2048*0"),
         (format!("compare {turning0} {turning1} 62*9 31*9 2048*9"), "refused 23 loop 32 | 62*9 31*9 2048*0"),
-    ];
-    rows.iter().map(|(line, stated)| if stated.is_empty() { note(line) } else { row(line, stated) }).collect()
+    ])
 }
 
 /// Two scenes and 32 places: the given scene goes round, the other stays. Scene 0's sheet accepts at the last place only, scene 1's
@@ -134,12 +149,14 @@ fn turning(scene: usize) -> Vec<u8> {
 
 fn cursors() -> Vec<Row> {
     table(&[
-        ("READINGS 10: the cursor", ""),
+        ("cursor: starts, steps, and positions up to the largest", ""),
         ("start -", "cursor loop 0"),
         ("start 0", "cursor opening 0"),
         ("start 300000*255", "cursor opening 0"),
         ("step opening 0 5,6 7", "passed 5 opening 1"),
         ("step opening 1 5,6 7", "passed 6 loop 0"),
+        ("step opening 255 300*5 7", "passed 5 opening 256"),
+        ("step loop 65535 - 65536*5,6", "passed 5 loop 65536"),
         ("step loop 0 - 7", "passed 7 loop 0"),
         ("step loop 0 5 255", "passed 255 loop 0"),
         ("step opening 0 - 7", "refused 24 cursor 0 cursor opening 0"),
@@ -152,7 +169,7 @@ fn cursors() -> Vec<Row> {
             "refused 24 cursor 18446744073709551615 cursor loop 18446744073709551615",
         ),
         ("step loop 4294967296 5 7,8", "refused 24 cursor 4294967296 cursor loop 4294967296"),
-        ("the rest of a part; empty where a step is refused", ""),
+        ("cursor: the rest of a part; empty where a step is refused", ""),
         ("rest opening 0 5,6,7 8", "rest 5,6,7"),
         ("rest opening 1 5,6,6 8", "rest 2*6"),
         ("rest opening 2 5,6,6 8", "rest 6"),

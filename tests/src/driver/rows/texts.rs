@@ -1,4 +1,4 @@
-//! The sheet as text: 01's text and its refusals, READINGS 14 to 17, and numbers.
+//! The sheet as text: 01's text, its refusals and their places, texts that end early, and numbers.
 
 use super::{note, plain, row, table, Row};
 use crate::driver::line::print;
@@ -20,12 +20,12 @@ const TEXT_OF_B: &str =
 
 /// What stands in B's text, what takes its place, and the refusal: number and place. An empty number is a note.
 const EDITS: &[(&str, &str, &str)] = &[
-    ("READINGS 15: 10 for the level", "", ""),
+    ("text: 10 for the level", "", ""),
     ("3 2 1", "2 2 1", "10 20"),
     ("3 2 1", "4 2 1", "10 20"),
     ("3 2 1", "0 2 1", "10 20"),
     ("3 2 1", "259 2 1", "10 20"),
-    ("2 for scenes, 3 for places, 4 for loops", "", ""),
+    ("text: 2 for scenes, 3 for places, 4 for loops", "", ""),
     ("3 2 1", "3 0 1", "2 22"),
     ("3 2 1", "3 33 1", "2 22"),
     ("3 2 1", "3 258 1", "2 22"),
@@ -33,7 +33,7 @@ const EDITS: &[(&str, &str, &str)] = &[
     ("3 2 1", "3 2 33", "3 24"),
     ("0 2 0 0", "0 0 0 0", "4 46"),
     ("0 2 0 0", "0 33 0 0", "4 46"),
-    ("5 for a next place: below n in the second block, below k(q) in the third; 6 for a mark", "", ""),
+    ("text: 5 for a next place: below n in the second block, below k(q) in the third; 6 for a mark", "", ""),
     ("0 2 0 0", "0 2 1 0", "5 48"),
     ("0 2 0 0", "0 2 0 1", "5 50"),
     ("0 2 0 0", "0 2 256 0", "5 48"),
@@ -41,7 +41,7 @@ const EDITS: &[(&str, &str, &str)] = &[
     ("0 1 1 1 1", "0 1 1 1 2", "5 92"),
     ("0 0 0 1 0", "0 0 2 1 0", "6 78"),
     ("0 1 1 1 1", "0 1 257 1 1", "6 88"),
-    ("12 for a place or loop number that is not the one due, also when far out of range", "", ""),
+    ("text: 12 for a place or loop number that is not the one due, also when far out of range", "", ""),
     ("0 2 0 0", "1 2 0 0", "12 44"),
     ("0 2 0 0", "999 2 0 0", "12 44"),
     ("0 0 0 1 0", "1 0 0 1 0", "12 74"),
@@ -50,13 +50,13 @@ const EDITS: &[(&str, &str, &str)] = &[
     ("0 1 1 1 1", "0 2 1 1 1", "12 86"),
     ("0 1 1 1 1", "0 999 1 1 1", "12 86"),
     ("0 1 1 1 1", "256 1 1 1 1", "12 84"),
-    ("READINGS 14: a good run is judged for range before the byte after it is looked at", "", ""),
+    ("text: a good run is judged for range before the byte after it is looked at", "", ""),
     ("3 2 1", "3 40x 1", "2 22"),
     ("3 2 1", "3 4x 1", "11 23"),
     ("3 2 1", "4x2 1", "10 20"),
     ("3 2 1", "3x2 1", "11 21"),
     ("0 0 0 1 0", "0 0 0 2x0", "5 80"),
-    ("a run of bad form is 11 at its first byte, its range unjudged", "", ""),
+    ("text: a run of bad form is 11 at its first byte, its range unjudged", "", ""),
     ("3 2 1", "03 2 1", "11 20"),
     ("3 2 1", "9999 2 1", "11 20"),
     ("3 2 1", "3 02 1", "11 22"),
@@ -65,14 +65,14 @@ const EDITS: &[(&str, &str, &str)] = &[
     ("3 2 1", "3 2 00", "11 24"),
     ("0 1 1 1 1", "0 1 01 1 1", "11 88"),
     ("0 1 1 1 1", "0 1 1 1 18446744073709551617", "11 92"),
-    ("where a digit is due and there is none", "", ""),
+    ("text: where a digit is due and there is none", "", ""),
     ("3 2 1", "x 2 1", "11 20"),
     ("3 2 1", "3  2 1", "11 22"),
     ("3 2 1", "3 2 ", "11 24"),
     ("3 2 1", "3 -2 1", "11 22"),
     ("3 2 1", "3 2 1 ", "11 25"),
     ("0 2 0 0", "0 2 :0", "11 48"),
-    ("READINGS 16: names are literals", "", ""),
+    ("text: names are literals", "", ""),
     ("level", "Level", "11 0"),
     ("places", "place", "11 18"),
     ("loops s0", "loops x0", "11 38"),
@@ -83,7 +83,7 @@ const EDITS: &[(&str, &str, &str)] = &[
     ("s0 s1\n0 2", "s0 s1 s2\n0 2", "11 43"),
     ("loop mark", "loop marks", "11 67"),
     ("loop mark", "mark loop", "11 58"),
-    ("READINGS 17: another row, a missing row, other line ends, more bytes", "", ""),
+    ("text: another row, a missing row, other line ends, more bytes", "", ""),
     ("0 2 0 0\n", "0 2 0 0 0\n", "11 51"),
     ("0 2 0 0\n", "0 2 0\n", "11 49"),
     ("0 2 0 0\n", "0 2 0 0\n1 1 0 0\n", "11 52"),
@@ -110,7 +110,13 @@ pub fn rows() -> Vec<Row> {
         assert_ne!(text, TEXT_OF_B);
         rows.push(read(&text, &format!("refused {number} first {place} | 11*9")));
     }
-    rows.push(note("the text ends early: 11 at its length, unless its last number is out of range or of bad form"));
+    rows.push(note(
+        "text: E has three places of one loop place each: below 3 in the second block, below 1 in the third",
+    ));
+    for (old, new, place) in [("1 1 2\n", "1 1 3\n", 51), ("1 0 1 0", "1 0 1 1", 92)] {
+        rows.push(read(&TEXTS[4].1.replacen(old, new, 1), &format!("refused 5 first {place} | 11*9")));
+    }
+    rows.push(note("text: it ends early: 11 at its length, unless its last number is out of range or of bad form"));
     for length in [0, 1, 19, 20, 21, 22, 25, 26, 31, 43, 44, 46, 51, 52, 73, 74, 83, 84, 93] {
         rows.push(read(&TEXT_OF_B[..length], &format!("refused 11 first {length} | 11*9")));
     }
@@ -137,7 +143,7 @@ fn both_ways() -> Vec<Row> {
         let written = format!("filled {} | {},2*9", text.len(), print(text));
         rows.push(row(&format!("write {packed} {}*9", text.len() + 2), &written));
     }
-    rows.push(note("s = 32: read; s = 33: 2; 32 places, 32 loop places"));
+    rows.push(note("text: s = 32: read; s = 33: 2; 32 places, 32 loop places"));
     for [letters, states, size] in [[32, 1, 1], [1, 32, 1], [1, 1, 32], [11, 12, 2]] {
         let (sheet, text) = (plain(letters, states, size, 1), plain_text(letters, states, size));
         let length = 2 + states + states * letters + states * size * (letters + 1);
@@ -172,7 +178,7 @@ fn plain_text(letters: usize, states: usize, size: usize) -> String {
 
 fn numbers() -> Vec<Row> {
     table(&[
-        ("numbers at a place: digits are the bytes 48 to 57, at most three, with no needless zero", ""),
+        ("numbers: digits are the bytes 48 to 57, at most three, with no needless zero", ""),
         ("number 48 0", "number 0 1"),
         ("number 49,50,51 0", "number 123 3"),
         ("number 57,57,57,32 0", "number 999 3"),
@@ -185,7 +191,7 @@ fn numbers() -> Vec<Row> {
         ("number 120 0", "refused 11 first 0"),
         ("number 47,58,47 1", "refused 11 first 1"),
         ("number 300000*49 0", "refused 11 first 0"),
-        ("a place within a run of digits; places at the text's end and past it", ""),
+        ("numbers: a place within a run of digits; places at the text's end and past it", ""),
         ("number 49,50,51,52 1", "number 234 4"),
         ("number 48,48 1", "number 0 2"),
         ("number 49,50 2", "refused 11 first 2"),
