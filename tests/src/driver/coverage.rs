@@ -30,7 +30,7 @@ impl Coverage {
             Some(call) => match outcome(call, &due) {
                 Some(outcome) => {
                     self.count(call.name, outcome);
-                    if let Some(room) = room(call, &due) {
+                    if let Some(room) = room(call, &due).filter(|_| needs_room(outcome)) {
                         self.count(call.name, &format!("{outcome}{room}"));
                     }
                 }

@@ -52,13 +52,13 @@ impl fmt::Display for Report {
 
 fn difference(due: &[u8], printed: &[u8]) -> String {
     let at = due.iter().zip(printed).take_while(|(left, right)| left == right).count();
+    // Where that is far on, both are shown from a little before it.
     let from = at.saturating_sub(SHOWN_BYTES / 2);
-    let near = if from == 0 { String::new() } else { format!("\n  due from byte {from} {}", shown(due, from)) };
-    format!(
-        "printed{} {}{near}\n  they differ at byte {at}",
-        if from == 0 { "" } else { " from there" },
-        shown(printed, from)
-    )
+    let (due, printed) = (shown(due, from), shown(printed, from));
+    match from {
+        0 => format!("printed {printed}\n  they differ at byte {at}"),
+        _ => format!("they differ at byte {at}; from byte {from} on\n  due {due}\n  printed {printed}"),
+    }
 }
 
 /// Bytes as text, from a place on, cut off where they are very many.

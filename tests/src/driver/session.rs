@@ -1,12 +1,12 @@
-//! One run of a driver: a thread sends lines, what is printed is compared as it comes.
+//! One run of a driver: one thread sends lines, one takes what is printed, and both are compared as they come.
 
 use crate::driver::random_line::Sent;
 use crate::driver::report::Report;
 use crate::inclusion::Search;
 use crate::random::Random;
 use std::io::{BufRead, BufReader, BufWriter, Read, Write};
-use std::process::{Child, ChildStdin, Command, Stdio};
-use std::sync::mpsc::{channel, Sender};
+use std::process::{ChildStdin, Command, Stdio};
+use std::sync::mpsc::{channel, Receiver, Sender};
 use std::thread;
 
 /// So many lines of a seed.
@@ -23,23 +23,22 @@ pub fn hold(
     ended: bool,
 ) -> Result<Report, String> {
     let name = program.get_program().to_string_lossy().into_owned();
-    let mut child = program
-        .stdin(Stdio::piped())
-        .stdout(Stdio::piped())
-        .spawn()
-        .map_err(|fault| format!("{name} cannot be run: {fault}"))?;
-    let input = child.stdin.take().expect("it is piped");
-    let (sender, receiver) = channel();
-    // The channel takes any number of lines, so that the thread never waits for the comparison, nor the program for us.
-    let thread = thread::spawn(move || send(lines, input, sender, ended));
-    let report = compare(&mut child, receiver.into_iter()).map_err(|fault| format!("reading from {name}: {fault}"));
+    let child = program.stdin(Stdio::piped()).stdout(Stdio::piped()).spawn();
+    let mut child = child.map_err(|fault| format!("{name} cannot be run: {fault}"))?;
+    let (input, output) = (child.stdin.take().expect("it is piped"), child.stdout.take().expect("it is piped"));
+    // The channels take any number of lines, so neither thread waits for the comparison, and the program waits for none of us.
+    let ((sender, sent), (taker, printed)) = (channel(), channel());
+    let sending = thread::spawn(move || send(lines, input, sender, ended));
+    let taking = thread::spawn(move || take(output, taker));
+    let report = compare(sent, printed);
     let status = child.wait().map_err(|fault| fault.to_string())?;
-    thread.join().map_err(|_| "the thread that sends lines broke off".to_string())?;
+    if sending.join().is_err() || taking.join().is_err() {
+        return Err("a thread broke off".to_string());
+    }
     if !status.success() {
-        let report = report.map_or_else(|fault| fault, |report| report.to_string());
         return Err(format!("{report}\n{name} ended with {status}"));
     }
-    report
+    Ok(report)
 }
 
 /// Writes the lines; stops where the program reads no more.
@@ -56,20 +55,27 @@ fn send(lines: impl Iterator<Item = Sent>, input: ChildStdin, sender: Sender<Sen
     }
 }
 
-fn compare(child: &mut Child, lines: impl Iterator<Item = Sent>) -> std::io::Result<Report> {
-    let mut output = BufReader::new(child.stdout.take().expect("it is piped"));
-    let mut report = Report::default();
-    for sent in lines {
-        let mut printed = Vec::new();
-        output.read_until(b'\n', &mut printed)?;
-        report.take(&format!(" of seed {}", sent.seed), &sent.line, &sent.due, &printed);
-        if printed.is_empty() {
-            // It prints no more: reads and waits end.
-            return Ok(report);
+/// Takes what is printed, line by line, with the line feeds.
+fn take(output: impl Read, taker: Sender<Vec<u8>>) {
+    let mut output = BufReader::new(output);
+    let mut line = Vec::new();
+    while output.read_until(b'\n', &mut line).is_ok_and(|length| length > 0) {
+        if taker.send(std::mem::take(&mut line)).is_err() {
+            return;
         }
     }
-    let mut rest = Vec::new();
-    output.read_to_end(&mut rest)?;
-    report.take_rest(&rest);
-    Ok(report)
+}
+
+fn compare(sent: Receiver<Sent>, printed: Receiver<Vec<u8>>) -> Report {
+    let mut report = Report::default();
+    for Sent { seed, line, due } in sent {
+        // Nothing comes once the output has ended.
+        let printed = printed.recv().unwrap_or_default();
+        report.take(&format!(" of seed {seed}"), &line, &due, &printed);
+        if printed.is_empty() {
+            return report;
+        }
+    }
+    report.take_rest(&printed.into_iter().collect::<Vec<_>>().concat());
+    report
 }

@@ -7,8 +7,8 @@ use std::io::{self, BufRead, BufWriter, Read, Write};
 use std::process::exit;
 
 /// Faults that are not in a field of one line: a line missing, printed twice or changed with the next, one more line at the end, no
-/// last line feed, no output after some lines, and a program that fails at its end.
-pub const FAULTS: [&str; 7] = ["missing", "double", "swapped", "more", "unended", "short", "status"];
+/// last line feed, no output after some lines, every line again and again, and a program that fails at its end.
+pub const FAULTS: [&str; 8] = ["missing", "double", "swapped", "more", "unended", "short", "babble", "status"];
 
 /// Answers standard input. A fault of a field is put into one line in the middle; `nothing` has no fault, `late` neither, but prints
 /// only when all is read.
@@ -16,16 +16,18 @@ pub fn run(fault: Option<&str>) -> Result<(), String> {
     let told = |fault: io::Error| fault.to_string();
     let (mut input, mut output) = (io::stdin().lock(), BufWriter::new(io::stdout().lock()));
     let mut search = Search::default();
-    let Some(fault) = fault else {
+    let fault = fault.unwrap_or_default();
+    if ["", "babble"].contains(&fault) {
+        let times = if fault.is_empty() { 1 } else { 20 };
         let mut line = Vec::new();
         while input.read_until(b'\n', &mut line).map_err(told)? > 0 {
             let mut printed = answer(line.strip_suffix(b"\n").unwrap_or(&line), &mut search);
             printed.push(b'\n');
-            output.write_all(&printed).map_err(told)?;
+            output.write_all(&printed.repeat(times)).map_err(told)?;
             line.clear();
         }
         return output.flush().map_err(told);
-    };
+    }
     let mut all = Vec::new();
     input.read_to_end(&mut all).map_err(told)?;
     let mut printed: Vec<Vec<u8>> = lines(&all).map(|line| answer(line, &mut search)).collect();

@@ -37,6 +37,8 @@ fn starred() -> Vec<Row> {
         ("step opening 0 5 7,8", "passed 5 loop 0"),
         ("step loop 0 5 7,8", "passed 7 loop 1"),
         ("step loop 1 5 7,8", "passed 8 loop 0"),
+        ("step loop 0 5 7,8", "passed 7 loop 1"),
+        ("step loop 1 5 7,8", "passed 8 loop 0"),
     ])
 }
 
