@@ -15,7 +15,7 @@ use crate::rows::{A, B, C, D, E};
 
 pub struct Row {
     pub line: String,
-    /// What is printed; where it ends in ` ..`, what that begins with.
+    /// The whole line that is printed.
     pub stated: String,
 }
 
@@ -93,11 +93,7 @@ mod tests {
         let mut search = Search::default();
         for row in rows() {
             let printed = String::from_utf8(answer(row.line.as_bytes(), &mut search)).unwrap();
-            let agrees = match row.stated.strip_suffix(" ..") {
-                Some(beginning) => printed.strip_prefix(beginning).is_some_and(|rest| rest.starts_with(' ')),
-                None => printed == row.stated,
-            };
-            assert!(agrees, "{}\n  stated {}\n  printed {printed}", row.line, row.stated);
+            assert_eq!(printed, row.stated, "{}", row.line);
         }
     }
 
