@@ -105,7 +105,7 @@ fn finish(random: &mut Random, call: Call, kind: &'static str, slices: Vec<Vec<u
 }
 
 /// Letters at random, one letter again and again, or a short word again and again; mostly few, now and then very many.
-fn word(random: &mut Random, letters: usize) -> Vec<u8> {
+pub fn word(random: &mut Random, letters: usize) -> Vec<u8> {
     let length = match random.below(2000) {
         0 => random.between(LONGEST_WORD / 10, LONGEST_WORD),
         1..=9 => random.below(5000),
@@ -132,15 +132,20 @@ fn answer(random: &mut Random, due: usize) -> Vec<u8> {
     random.bytes(length)
 }
 
-/// Room for a word, with anything in it: about as much as is needed.
+/// Room for a word, with anything in it.
 fn room(random: &mut Random, needed: usize) -> Vec<u8> {
-    let length = match random.below(16) {
+    let length = room_length(random, needed);
+    random.bytes(length)
+}
+
+/// About as much room as is needed: enough, just enough, one cell too few, none.
+pub fn room_length(random: &mut Random, needed: usize) -> usize {
+    match random.below(16) {
         0 => 0,
         1 => needed.saturating_sub(1),
         2 => random.below(needed + 1),
         3..=6 => needed + 1,
         7..=9 => needed + random.below(100),
         _ => needed,
-    };
-    random.bytes(length)
+    }
 }

@@ -8,9 +8,17 @@
 
 use crate::sheet::{Part, Refusal, Sheet, MOST};
 
-/// The cells that the players' comparison has: one for each pair and one for each combination, reached or not.
+/// The cells that the players' comparison has.
 pub const CELLS: usize = 8192;
+/// The most cells that a comparison may need here: a place in the queue has 16 bits.
+pub const MOST_CELLS: usize = u16::MAX as usize;
 const PAIRS: usize = MOST * MOST;
+
+/// The cells that a comparison needs: one for each pair and one for each combination, reached or not.
+pub fn cells_needed(first: &Sheet, second: &Sheet) -> usize {
+    let pairs = first.states * second.states;
+    pairs + pairs * first.largest_size() * second.largest_size()
+}
 
 #[derive(Clone, Copy, Debug, PartialEq, Eq)]
 pub enum Inclusion {
@@ -72,9 +80,22 @@ impl Default for Search {
 }
 
 impl Search {
-    /// Compares two packed sheets. A counterexample is put at the start of `prefix` and `period`, where both are long enough.
+    /// Compares two packed sheets with the players' cells.
     pub fn compare(
         &mut self,
+        first: &[u8],
+        second: &[u8],
+        prefix: &mut [u8],
+        period: &mut [u8],
+    ) -> Result<Inclusion, Refusal> {
+        self.compare_within(CELLS, first, second, prefix, period)
+    }
+
+    /// Compares two packed sheets with so many cells. A counterexample is put at the start of `prefix` and `period`, where both are
+    /// long enough.
+    pub fn compare_within(
+        &mut self,
+        cells: usize,
         first: &[u8],
         second: &[u8],
         prefix: &mut [u8],
@@ -85,10 +106,14 @@ impl Search {
         if first.letters != second.letters {
             return Err(Refusal { number: 7, part: Part::Second, place: 0 });
         }
-        let pairs = first.states * second.states;
-        let cells = pairs + pairs * first.largest_size() * second.largest_size();
-        if cells > CELLS {
-            return Err(Refusal { number: 22, part: Part::Work, place: cells });
+        let needed = cells_needed(&first, &second);
+        if needed > cells {
+            return Err(Refusal { number: 22, part: Part::Work, place: needed });
+        }
+        assert!(needed <= MOST_CELLS, "{needed} cells are more than a search here can have");
+        if needed > self.signs.len() {
+            self.nodes.resize(needed + 1, Node::default());
+            self.signs.resize(needed, NEW);
         }
         self.letters = first.letters;
         let reached = self.reach_pairs(&first, &second);

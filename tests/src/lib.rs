@@ -1,22 +1,30 @@
-//! The verdict and the comparison written a second time, from the papers alone, and what holds the static library to them.
+//! The calls written a second time, from the papers alone, and what holds the static library and the program `driver` to them.
 //!
-//! `sheet`, `verdict` and `inclusion` are the independent implementation; `naive` tries all short lassos and checks `inclusion`.
+//! `sheet`, `verdict`, `inclusion`, `emptiness`, `boolean`, `cursor`, `numeral` and `sheet_text` are the independent implementation
+//! (`lent` is what they share); `naive` tries all short lassos and checks `inclusion` and `emptiness`.
 //! `library` calls the static library, on slices that `guarded` lends; `layout` has the bytes of the answers that are due.
 //! `generate`, `mix` and `case` make sheets and cases at random, `rows` has those of the papers, `check` runs one and compares all bytes,
-//! `tally` counts them, and `crash` names the one that broke off.
+//! `tally` counts them, and `crash` names the one that broke off. `driver` holds that program to the implementation, line by line.
 
+pub mod boolean;
 pub mod case;
 pub mod check;
 pub mod crash;
+pub mod cursor;
+pub mod driver;
+pub mod emptiness;
 pub mod generate;
 pub mod guarded;
 pub mod inclusion;
 pub mod layout;
+pub mod lent;
 pub mod library;
 pub mod mix;
 pub mod naive;
+pub mod numeral;
 pub mod random;
 pub mod rows;
 pub mod sheet;
+pub mod sheet_text;
 pub mod tally;
 pub mod verdict;

@@ -15,7 +15,7 @@ pub fn any_sheet(random: &mut Random) -> (&'static str, Vec<u8>) {
 }
 
 /// Bytes that are no sheet, or only by luck.
-fn garbage(random: &mut Random) -> Vec<u8> {
+pub fn garbage(random: &mut Random) -> Vec<u8> {
     let most = random.pick(&[0, 1, 2, 8, 64, 2000]);
     let length = random.between(0, most);
     let limit = random.pick(&[3, 34, 256]);
@@ -115,13 +115,15 @@ fn near_the_limit(random: &mut Random) -> (&'static str, Draft, Draft) {
     ];
     let [states1, states2, size1, size2] = random.pick(&SIZES);
     let letters = random.between(1, 3);
-    let mut draft = |states: usize, size: usize| {
-        let shape = random.pick(&generate::SHAPES);
-        let leading = generate::table(random, shape, letters, states);
-        let shape = random.pick(&generate::SHAPES);
-        let marks = |random: &mut Random| (0..size).map(|_| random.once_in(2) as u8).collect();
-        let progress = (0..states).map(|_| (generate::table(random, shape, letters, size), marks(random))).collect();
-        Draft { letters, leading, progress }
-    };
-    ("near 8,192 cells", draft(states1, size1), draft(states2, size2))
+    ("near 8,192 cells", of_sizes(random, letters, states1, size1), of_sizes(random, letters, states2, size2))
+}
+
+/// A sheet with so many leading states, and so many progress states for each.
+pub fn of_sizes(random: &mut Random, letters: usize, states: usize, size: usize) -> Draft {
+    let shape = random.pick(&generate::SHAPES);
+    let leading = generate::table(random, shape, letters, states);
+    let shape = random.pick(&generate::SHAPES);
+    let marks = |random: &mut Random| (0..size).map(|_| random.once_in(2) as u8).collect();
+    let progress = (0..states).map(|_| (generate::table(random, shape, letters, size), marks(random))).collect();
+    Draft { letters, leading, progress }
 }

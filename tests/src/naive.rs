@@ -84,16 +84,27 @@ pub fn first_counterexample(
     longest_prefix: usize,
     longest_period: usize,
 ) -> Option<Lasso> {
+    let wanted = |prefix: &[u8], period: &[u8]| is_counterexample(first, second, prefix, period);
+    first_lasso(first.letters, longest_prefix, longest_period, wanted)
+}
+
+/// The first wanted lasso among those with a prefix and a period of at most those lengths.
+pub fn first_lasso(
+    letters: usize,
+    longest_prefix: usize,
+    longest_period: usize,
+    wanted: impl Fn(&[u8], &[u8]) -> bool,
+) -> Option<Lasso> {
     let mut prefix = Vec::new();
     while prefix.len() <= longest_prefix {
         let mut period = vec![0];
         while period.len() <= longest_period {
-            if is_counterexample(first, second, &prefix, &period) {
+            if wanted(&prefix, &period) {
                 return Some((prefix, period));
             }
-            advance(&mut period, first.letters);
+            advance(&mut period, letters);
         }
-        advance(&mut prefix, first.letters);
+        advance(&mut prefix, letters);
     }
     None
 }
@@ -125,6 +136,24 @@ pub fn reached_pairs(first: &Family, second: &Family) -> usize {
             let (state1, state2) = reached[at];
             for letter in 0..first.letters {
                 let next = (first.leading[state1][letter], second.leading[state2][letter]);
+                if !reached.contains(&next) {
+                    reached.push(next);
+                }
+            }
+        }
+        if reached.len() == known {
+            return known;
+        }
+    }
+}
+
+/// How many leading states are reached, in the same manner.
+pub fn reached_states(family: &Family) -> usize {
+    let mut reached = vec![0];
+    loop {
+        let known = reached.len();
+        for at in 0..known {
+            for &next in &family.leading[reached[at]] {
                 if !reached.contains(&next) {
                     reached.push(next);
                 }

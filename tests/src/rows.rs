@@ -2,11 +2,12 @@
 
 use crate::case::Case;
 
-const A: &[u8] = &[2, 1, 1, 0, 0, 0, 0, 1];
-const B: &[u8] = &[2, 1, 2, 0, 0, 1, 0, 1, 1, 0, 1];
-const C: &[u8] = &[1, 1, 2, 0, 1, 0, 1, 0];
-const D: &[u8] = &[1, 2, 1, 1, 1, 0, 0, 1, 0, 1];
-const E: &[u8] = &[1, 3, 1, 1, 1, 1, 2, 1, 0, 0, 0, 1, 0, 0];
+/// The sheets of 01.
+pub const A: &[u8] = &[2, 1, 1, 0, 0, 0, 0, 1];
+pub const B: &[u8] = &[2, 1, 2, 0, 0, 1, 0, 1, 1, 0, 1];
+pub const C: &[u8] = &[1, 1, 2, 0, 1, 0, 1, 0];
+pub const D: &[u8] = &[1, 2, 1, 1, 1, 0, 0, 1, 0, 1];
+pub const E: &[u8] = &[1, 3, 1, 1, 1, 1, 2, 1, 0, 0, 0, 1, 0, 0];
 
 pub struct Row {
     pub name: &'static str,
@@ -106,8 +107,8 @@ fn compare_rows() -> Vec<Row> {
     ]
 }
 
-/// One letter, all automata cycles; only state 0 of each progress automaton is marked, or only it is not.
-fn cycle(states: usize, size: usize, marked: bool) -> Vec<u8> {
+/// A sheet with one letter, all automata cycles; only state 0 of each progress automaton is marked, or only it is not.
+pub fn cycle(states: usize, size: usize, marked: bool) -> Vec<u8> {
     let around = |count: usize| (0..count).map(move |state| ((state + 1) % count) as u8);
     let mut sheet = vec![1, states as u8];
     sheet.extend(vec![size as u8; states]);

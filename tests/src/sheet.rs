@@ -10,7 +10,24 @@ pub enum Part {
     Second = 1,
     Opening = 2,
     Loop = 3,
+    Out = 4,
     Work = 5,
+    Cursor = 6,
+}
+
+impl Part {
+    /// Its name in 01.
+    pub fn name(self) -> &'static str {
+        match self {
+            Part::First => "first",
+            Part::Second => "second",
+            Part::Opening => "opening",
+            Part::Loop => "loop",
+            Part::Out => "out",
+            Part::Work => "work",
+            Part::Cursor => "cursor",
+        }
+    }
 }
 
 #[derive(Clone, Copy, Debug, PartialEq, Eq)]

@@ -1,0 +1,202 @@
+//! Holds the program `driver` to the independent implementation, line by line.
+//!
+//! driver_lines stored STDIN STDOUT                        a stored input and output agree with what is due
+//! driver_lines random COUNT [SEED] [--driver PATH]        lines at random through one run of the driver (else FDFA_DRIVER is its path)
+//! driver_lines rows [STDIN STDOUT]                        the rows to store, each with what is due; or both into two files
+//! driver_lines line SEED                                  one line at random, with what is due
+//! driver_lines answer [--wrong KIND]                      stands in for the driver, with a fault or without
+//! driver_lines self-test                                  damages and wrong stand-ins are found; every outcome is met often
+
+use outside::driver::calls::{answer, lines};
+use outside::driver::coverage::Coverage;
+use outside::driver::damaged_answer::{damages, KINDS};
+use outside::driver::random_line::Sent;
+use outside::driver::report::Report;
+use outside::driver::session::{hold, random_lines};
+use outside::driver::{rows, stand_in};
+use outside::inclusion::Search;
+use std::collections::BTreeMap;
+use std::process::{Command, ExitCode};
+use std::time::Instant;
+use std::{env, fs};
+
+const SEED: u64 = 20_261_115;
+
+fn main() -> ExitCode {
+    let words: Vec<String> = env::args().skip(1).collect();
+    let words: Vec<&str> = words.iter().map(String::as_str).collect();
+    let result = match words.as_slice() {
+        ["stored", input, output] => stored(input, output),
+        ["random", rest @ ..] => random(rest),
+        ["rows"] => print_rows(),
+        ["rows", input, output] => store_rows(input, output),
+        ["line", seed] => number(seed).map(one_line),
+        ["answer"] => stand_in::run(None),
+        ["answer", "--wrong", kind] => stand_in::run(Some(kind)),
+        ["self-test"] => self_test(),
+        _ => {
+            Err("usage: driver_lines stored STDIN STDOUT | random COUNT [SEED] [--driver PATH] | rows | self-test"
+                .into())
+        }
+    };
+    match result {
+        Ok(()) => ExitCode::SUCCESS,
+        Err(fault) => {
+            eprintln!("FAILED: {fault}");
+            ExitCode::FAILURE
+        }
+    }
+}
+
+fn number(word: &str) -> Result<u64, String> {
+    word.parse().map_err(|_| format!("{word} is no number"))
+}
+
+fn agreed(report: &Report) -> Result<(), String> {
+    match report.mismatches {
+        0 => Ok(()),
+        count => Err(format!("{count} mismatches")),
+    }
+}
+
+fn stored(input: &str, output: &str) -> Result<(), String> {
+    let load = |path: &str| fs::read(path).map_err(|fault| format!("{path}: {fault}"));
+    let (input, output) = (load(input)?, load(output)?);
+    let mut search = Search::default();
+    let mut report = Report::default();
+    let mut printed = output.split_inclusive(|&byte| byte == b'\n');
+    for line in lines(&input) {
+        report.take("", line, &answer(line, &mut search), printed.next().unwrap_or_default());
+    }
+    report.take_rest(&printed.collect::<Vec<_>>().concat());
+    println!("{report}");
+    agreed(&report)
+}
+
+fn random(words: &[&str]) -> Result<(), String> {
+    let (words, driver) = match words {
+        [words @ .., "--driver", path] => (words, path.to_string()),
+        _ => (words, env::var("FDFA_DRIVER").map_err(|_| "no driver: give --driver PATH or set FDFA_DRIVER")?),
+    };
+    let (count, seed) = match words {
+        [count] => (number(count)?, SEED),
+        [count, seed] => (number(count)?, number(seed)?),
+        _ => return Err("random takes COUNT and at most a SEED".to_string()),
+    };
+    let began = Instant::now();
+    // With an odd seed the last line has no line feed.
+    let report = hold(Command::new(driver), random_lines(seed, count as usize), seed % 2 == 0)?;
+    println!("{report} (seed {seed}, {:.1} s)", began.elapsed().as_secs_f64());
+    agreed(&report)
+}
+
+fn print_rows() -> Result<(), String> {
+    let mut search = Search::default();
+    for row in rows::rows() {
+        println!("{}", row.line);
+        if !row.line.starts_with('#') {
+            println!("    {}", answer(row.line.as_bytes(), &mut search).escape_ascii());
+        }
+    }
+    Ok(())
+}
+
+fn store_rows(input: &str, output: &str) -> Result<(), String> {
+    let (lines, due) = rows::stored();
+    let store = |path: &str, bytes: Vec<u8>| fs::write(path, bytes).map_err(|fault| format!("{path}: {fault}"));
+    store(input, lines)?;
+    store(output, due)
+}
+
+fn one_line(seed: u64) {
+    let sent = Sent::random(seed, &mut Search::default());
+    println!("{}\n{}", sent.line.escape_ascii(), sent.due.escape_ascii());
+}
+
+fn self_test() -> Result<(), String> {
+    find_damages()?;
+    find_wrong_drivers()?;
+    cover()
+}
+
+/// Damages answers field by field: the comparison must find each.
+fn find_damages() -> Result<(), String> {
+    const LINES: usize = 4000;
+    let mut found: BTreeMap<&str, usize> = BTreeMap::new();
+    for Sent { seed, line, due } in random_lines(SEED, LINES).filter(|sent| sent.due.len() < 5000) {
+        let mut whole = due.clone();
+        whole.push(b'\n');
+        for (kind, mut damaged) in damages(&due) {
+            damaged.push(b'\n');
+            let mut report = Report::default();
+            report.take("", &line, &due, &whole);
+            report.take("", &line, &due, &damaged);
+            if report.mismatches != 1 {
+                return Err(format!("seed {seed}: a damaged {kind} was not found, or one where there is none"));
+            }
+            *found.entry(kind).or_default() += 1;
+        }
+    }
+    match KINDS.iter().find(|kind| found.get(*kind).is_none_or(|&count| count < 50)) {
+        Some(kind) => Err(format!("hardly any {kind} was damaged")),
+        None => {
+            println!("damages found: {found:?}");
+            Ok(())
+        }
+    }
+}
+
+/// This program stands in for the driver: without a fault it passes, with any fault it does not.
+fn find_wrong_drivers() -> Result<(), String> {
+    const LINES: usize = 3000;
+    let program = env::current_exe().map_err(|fault| fault.to_string())?;
+    let stand_in = |words: &[&str], ended| {
+        let mut command = Command::new(&program);
+        command.arg("answer").args(words);
+        hold(command, random_lines(SEED, LINES), ended)
+    };
+    for ended in [true, false] {
+        for words in [&[][..], &["--wrong", "nothing"], &["--wrong", "late"]] {
+            let report = stand_in(words, ended)?;
+            if (report.lines, report.mismatches) != (LINES, 0) {
+                return Err(format!("{words:?}: {report}"));
+            }
+        }
+    }
+    for fault in KINDS.iter().chain(&stand_in::FAULTS) {
+        let found = match stand_in(&["--wrong", fault], true) {
+            Ok(report) if KINDS.contains(fault) => report.mismatches == 1,
+            Ok(report) => report.mismatches > 0,
+            Err(told) => *fault == "status" && told.contains("ended with"),
+        };
+        if !found {
+            return Err(format!("a driver with the fault `{fault}` was not found, or not that alone"));
+        }
+        println!("a driver with the fault `{fault}` is found");
+    }
+    Ok(())
+}
+
+/// Every outcome that the table of calls lists is met often, and no other.
+fn cover() -> Result<(), String> {
+    const LINES: usize = 150_000;
+    const LEAST: usize = 50;
+    let began = Instant::now();
+    let mut coverage = Coverage::default();
+    let (mut sent_bytes, mut due_bytes) = (0, 0);
+    for sent in random_lines(SEED, LINES) {
+        coverage.add(&sent.line, &sent.due);
+        sent_bytes += sent.line.len();
+        due_bytes += sent.due.len();
+    }
+    print!("{coverage}");
+    println!(
+        "{LINES} lines, {sent_bytes} bytes, answers of {due_bytes} bytes ({:.1} s)",
+        began.elapsed().as_secs_f64()
+    );
+    let faults = coverage.faults(LEAST);
+    if faults.is_empty() {
+        return Ok(());
+    }
+    Err(faults.join("\n"))
+}

@@ -1,0 +1,117 @@
+//! How often each outcome of each call is met.
+
+use crate::driver::calls::{Call, CALLS};
+use std::collections::BTreeMap;
+use std::fmt;
+
+/// Where a line counts that names no call.
+const OTHER: &str = "other lines";
+const NO_CALL: &str = "no call";
+const COMMENT: &str = "comment";
+/// Added to an outcome where a lent slice is exactly as long as needed, or one cell too short.
+const JUST_ENOUGH: &str = ", just enough room";
+const ONE_TOO_FEW: &str = ", one cell too few";
+
+#[derive(Default)]
+pub struct Coverage {
+    counts: BTreeMap<(&'static str, String), usize>,
+    unlisted: Vec<String>,
+}
+
+impl Coverage {
+    pub fn add(&mut self, line: &[u8], due: &[u8]) {
+        let due = String::from_utf8_lossy(due);
+        let name = line.split(|&byte| byte == b' ').next().unwrap_or_default();
+        let call = CALLS.iter().find(|call| call.name.as_bytes() == name);
+        match call {
+            _ if line.starts_with(b"#") => self.count(OTHER, COMMENT),
+            None => self.count(OTHER, NO_CALL),
+            Some(call) if due == NO_CALL => self.count(call.name, NO_CALL),
+            Some(call) => match outcome(call, &due) {
+                Some(outcome) => {
+                    self.count(call.name, outcome);
+                    if let Some(room) = room(call, &due).filter(|_| needs_room(outcome)) {
+                        self.count(call.name, &format!("{outcome}{room}"));
+                    }
+                }
+                None => self.unlisted.push(format!("{}: {due}", call.name)),
+            },
+        }
+    }
+
+    fn count(&mut self, name: &'static str, outcome: &str) {
+        *self.counts.entry((name, outcome.to_string())).or_default() += 1;
+    }
+
+    /// The outcomes that are due and were met less often than that, and those that were met and are not listed.
+    pub fn faults(&self, least: usize) -> Vec<String> {
+        let mut due = vec![(OTHER, NO_CALL.to_string()), (OTHER, COMMENT.to_string())];
+        for call in CALLS {
+            due.push((call.name, NO_CALL.to_string()));
+            for outcome in call.outcomes.concat() {
+                due.push((call.name, outcome.to_string()));
+                if needs_room(outcome) {
+                    let room = if outcome.starts_with("refused") { ONE_TOO_FEW } else { JUST_ENOUGH };
+                    due.push((call.name, format!("{outcome}{room}")));
+                }
+            }
+        }
+        let met = |key: &(&'static str, String)| self.counts.get(key).copied().unwrap_or(0);
+        let few = due.into_iter().filter(|key| met(key) < least);
+        let few = few.map(|key| format!("{}: {} was met {} times", key.0, key.1, met(&key)));
+        few.chain(self.unlisted.iter().map(|outcome| format!("unlisted: {outcome}"))).collect()
+    }
+}
+
+/// The longest listed outcome that an answer begins with.
+fn outcome(call: &Call, due: &str) -> Option<&'static str> {
+    let begins =
+        |outcome: &&str| due.strip_prefix(*outcome).is_some_and(|rest| rest.is_empty() || rest.starts_with(' '));
+    call.outcomes.concat().into_iter().filter(begins).max_by_key(|outcome| outcome.len())
+}
+
+fn needs_room(outcome: &str) -> bool {
+    let refused = ["refused 21", "refused 22", "refused 23"].iter().any(|refused| outcome.starts_with(refused));
+    refused || ["filled", "missing", "found"].contains(&outcome)
+}
+
+/// Whether the lent slice that the answer speaks of is exactly as long as needed, or one cell too short.
+fn room(call: &Call, due: &str) -> Option<&'static str> {
+    let (answer, printed) = due.split_once(" | ")?;
+    let lengths: Vec<usize> = printed.split(' ').map(length).collect();
+    let words: Vec<&str> = answer.split(' ').collect();
+    let number = |at: usize| words[at].parse::<usize>().ok();
+    match words[0] {
+        "refused" => {
+            let at = call.lent.iter().position(|part| part.name() == words[2])?;
+            (lengths[at] + 1 == number(3)?).then_some(ONE_TOO_FEW)
+        }
+        "filled" => (lengths[0] == number(1)?).then_some(JUST_ENOUGH),
+        "missing" | "found" => ((lengths[0], lengths[1]) == (number(2)?, number(3)?)).then_some(JUST_ENOUGH),
+        _ => None,
+    }
+}
+
+/// How many cells a printed slice has.
+fn length(word: &str) -> usize {
+    let count = |item: &str| item.split_once('*').map_or(1, |(count, _)| count.parse().expect("it was printed"));
+    if word == "-" {
+        0
+    } else {
+        word.split(',').map(count).sum()
+    }
+}
+
+impl fmt::Display for Coverage {
+    fn fmt(&self, out: &mut fmt::Formatter) -> fmt::Result {
+        let mut last = "";
+        for ((name, outcome), count) in &self.counts {
+            if *name != last {
+                writeln!(out, "{name}")?;
+                last = name;
+            }
+            writeln!(out, "{count:>9}  {outcome}")?;
+        }
+        Ok(())
+    }
+}

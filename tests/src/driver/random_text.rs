@@ -1,0 +1,144 @@
+//! Texts at random: digits with what may stand beside them, and sheets' texts with a fault in every kind of place.
+
+use crate::driver::line::Cell;
+use crate::random::Random;
+
+/// Digits of good and bad form, and what may stand beside them: the bytes next to the digits among them.
+const DIGITS: [&str; 14] =
+    ["0", "7", "9", "10", "42", "99", "100", "805", "999", "1000", "00", "01", "007", "18446744073709551617"];
+const OTHERS: [&[u8]; 9] = [b" ", b"\n", b"\r", b"/", b":", b"s", b"\xb1", b"\0", b"-"];
+
+/// A text, and a place in it where digits begin.
+pub fn any_text(random: &mut Random) -> (Vec<u8>, usize) {
+    let mut text = Vec::new();
+    let mut places = vec![0];
+    for _ in 0..random.below(5) {
+        if random.once_in(2) {
+            text.extend(random.pick(&OTHERS));
+        }
+        places.push(text.len());
+        text.extend(random.pick(&DIGITS).bytes());
+        if !random.once_in(4) {
+            text.extend(random.pick(&OTHERS));
+        }
+    }
+    if random.once_in(500) {
+        text.resize(u8::LONGEST, b'0' + random.below(10) as u8);
+    }
+    (text, random.pick(&places))
+}
+
+/// A sheet's text with a fault (or, by luck, with none): in a number, a byte, a line, or at the end.
+pub fn damaged(random: &mut Random, text: Vec<u8>) -> Vec<u8> {
+    match random.below(8) {
+        0..=4 => with_other_number(random, &text),
+        5 => with_other_byte(random, text),
+        6 => with_other_lines(random, &text),
+        _ => with_other_end(random, text),
+    }
+}
+
+fn split(text: &[u8], at: u8) -> Vec<Vec<u8>> {
+    text.split(|&byte| byte == at).map(<[u8]>::to_vec).collect()
+}
+
+/// Another number in one row: level, scenes, places; place, loops, next place; place, loop place, mark, next place.
+fn with_other_number(random: &mut Random, text: &[u8]) -> Vec<u8> {
+    let mut lines = split(text, b'\n');
+    let third = lines.iter().rposition(|line| line.starts_with(b"place")).expect("there are three blocks");
+    // After the last line feed stands an empty piece.
+    let last = lines.len() - 2;
+    // The row of values of the first block; the first, the last or any row of the others.
+    let (from, to) = random.pick(&[(1, 1), (3, third - 1), (third + 1, last)]);
+    let any = random.between(from, to);
+    let at = random.pick(&[from, to, any]);
+    let mut words = split(&lines[at], b' ');
+    let column = match random.below(5) {
+        column @ 0..=3 => column.min(words.len() - 1),
+        _ => random.below(words.len()),
+    };
+    words[column] = other_number(random, &words[column]);
+    lines[at] = words.join(&b' ');
+    lines.join(&b'\n')
+}
+
+fn other_number(random: &mut Random, word: &[u8]) -> Vec<u8> {
+    const OTHERS: [&str; 24] = [
+        "0",
+        "1",
+        "2",
+        "3",
+        "4",
+        "5",
+        "31",
+        "32",
+        "33",
+        "40",
+        "99",
+        "256",
+        "258",
+        "999",
+        "1000",
+        "1234",
+        "00",
+        "01",
+        "033",
+        "",
+        "-1",
+        "+1",
+        "x",
+        "4294967297",
+    ];
+    let value: usize = String::from_utf8_lossy(word).parse().expect("the text is that of a sheet");
+    match random.below(8) {
+        0 => (value + 1).to_string(),
+        1 => value.saturating_sub(1).to_string(),
+        2 => format!("{}", value + 256),
+        3 => format!("0{value}"),
+        4 => {
+            // In range or not: that is judged before the byte after the number.
+            let value = random.pick(&[value, value, 40, 999]);
+            format!("{value}{}", random.pick(&["x", " ", "\n", "\r", "\t", ":", "/", "."]))
+        }
+        _ => random.pick(&OTHERS).to_string(),
+    }
+    .into_bytes()
+}
+
+/// One byte more, less or changed, mostly in a line of names.
+fn with_other_byte(random: &mut Random, mut text: Vec<u8>) -> Vec<u8> {
+    let names: Vec<usize> = (0..text.len()).filter(|&at| text[at].is_ascii_alphabetic()).collect();
+    let at = if random.once_in(2) { random.pick(&names) } else { random.below(text.len()) };
+    let byte = random.pick(b"0123456789 \n\r\tsxS_,\0\xff");
+    match random.below(4) {
+        0 => text.insert(at, byte),
+        1 => drop(text.remove(at)),
+        2 => text[at] = byte,
+        _ => text[at] ^= 1 << random.below(8),
+    }
+    text
+}
+
+/// A line missing, twice, or changed with another.
+fn with_other_lines(random: &mut Random, text: &[u8]) -> Vec<u8> {
+    let mut lines = split(text, b'\n');
+    let (at, other) = (random.below(lines.len()), random.below(lines.len()));
+    match random.below(4) {
+        0 => drop(lines.remove(at)),
+        1 => lines.insert(at, lines[at].clone()),
+        2 => lines.insert(at, Vec::new()),
+        _ => lines.swap(at, other),
+    }
+    lines.join(&b'\n')
+}
+
+/// The text cut off somewhere, or going on.
+fn with_other_end(random: &mut Random, mut text: Vec<u8>) -> Vec<u8> {
+    match random.below(4) {
+        0 if random.once_in(32) => text.resize(u8::LONGEST.max(text.len()), b'0'),
+        0 => text.truncate(text.len() - 1),
+        1..=2 => text.truncate(random.below(text.len())),
+        _ => text.extend(random.pick(&[&b"\n"[..], b"0", b" ", b"\0", b"0 0 0 0\n", b"level scenes places\n"])),
+    }
+    text
+}

@@ -1,0 +1,114 @@
+//! Lines to store, each with what the papers say of it: 01's rows, refusals of every number, cases that invite a mistake, no calls.
+//!
+//! What is stated is written by hand, from the papers; a test holds the independent implementation to it.
+
+mod forms;
+mod refusals;
+mod searches;
+mod texts;
+mod tries;
+
+use crate::driver::calls::{answer, lines};
+use crate::driver::line::print;
+use crate::inclusion::Search;
+use crate::rows::{A, B, C, D, E};
+
+pub struct Row {
+    pub line: String,
+    /// The whole line that is printed.
+    pub stated: String,
+}
+
+pub fn rows() -> Vec<Row> {
+    let mut rows = tries::rows();
+    rows.extend(refusals::rows());
+    rows.extend(searches::rows());
+    rows.extend(texts::rows());
+    rows.extend(forms::rows());
+    rows
+}
+
+/// The rows as an input of the driver, and what is due for it.
+pub fn stored() -> (Vec<u8>, Vec<u8>) {
+    let mut search = Search::default();
+    let (mut input, mut output) = (Vec::new(), Vec::new());
+    for row in rows() {
+        input.extend(row.line.bytes());
+        input.push(b'\n');
+    }
+    for line in lines(&input) {
+        output.extend(answer(line, &mut search));
+        output.push(b'\n');
+    }
+    (input, output)
+}
+
+/// A line that says what the next ones are; the driver prints it as it is.
+fn note(text: &str) -> Row {
+    Row { line: format!("# {text}"), stated: format!("# {text}") }
+}
+
+/// A row in which sheets and texts of 01 may stand by name: `verdict B - 0`, `read B.txt 11*9`.
+fn row(line: &str, stated: &str) -> Row {
+    let words: Vec<String> = line.split(' ').map(expanded).collect();
+    Row { line: words.join(" "), stated: stated.to_string() }
+}
+
+/// Rows and, where nothing is stated, notes.
+fn table(rows: &[(impl AsRef<str>, &str)]) -> Vec<Row> {
+    let made = |line: &str, stated: &str| if stated.is_empty() { note(line) } else { row(line, stated) };
+    rows.iter().map(|(line, stated)| made(line.as_ref(), stated)).collect()
+}
+
+fn expanded(word: &str) -> String {
+    let sheets = [("A", A), ("B", B), ("C", C), ("D", D), ("E", E)];
+    if let Some((_, sheet)) = sheets.iter().find(|(name, _)| *name == word) {
+        return print(sheet);
+    }
+    match texts::TEXTS.iter().find(|(name, _)| *name == word) {
+        Some((_, text)) => print(text.as_bytes()),
+        None => word.to_string(),
+    }
+}
+
+/// A sheet whose next states are all 0 and whose marks are all the same, as a word.
+fn plain(letters: usize, states: usize, size: usize, mark: u8) -> String {
+    let mut sheet = vec![letters as u8, states as u8];
+    sheet.extend(vec![size as u8; states]);
+    sheet.extend(vec![0; states * letters]);
+    for _ in 0..states {
+        sheet.extend(vec![0; size * letters]);
+        sheet.extend(vec![mark; size]);
+    }
+    print(&sheet)
+}
+
+#[cfg(test)]
+mod tests {
+    use super::*;
+    use crate::driver::coverage::Coverage;
+
+    #[test]
+    fn the_independent_implementation_prints_what_is_stated() {
+        let mut search = Search::default();
+        for row in rows() {
+            let printed = String::from_utf8(answer(row.line.as_bytes(), &mut search)).unwrap();
+            assert_eq!(printed, row.stated, "{}", row.line);
+        }
+    }
+
+    #[test]
+    fn every_outcome_of_every_call_has_a_row() {
+        let mut search = Search::default();
+        let mut coverage = Coverage::default();
+        for row in rows() {
+            coverage.add(row.line.as_bytes(), &answer(row.line.as_bytes(), &mut search));
+        }
+        assert_eq!(coverage.faults(1).join("\n"), "");
+    }
+
+    #[test]
+    fn a_row_is_one_line() {
+        assert!(rows().iter().all(|row| !row.line.contains('\n') && !row.stated.is_empty()));
+    }
+}
