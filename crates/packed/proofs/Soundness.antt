@@ -1,5 +1,5 @@
 -- A sheet is refused for nothing exactly if it is valid. Assumes nothing.
-use mathlib.Core.Path.{_≡_, refl, ap, subst, _∙_}
+use mathlib.Core.Path.{_≡_, refl, subst, _∙_}
 use mathlib.Core.Bool.{not}
 use mathlib.Core.List.{List}
 use Prim.Native.Nat.{ℕ, zero, suc, _+_, _*_, _/_, _%_, _≤_, _<_}
@@ -14,7 +14,7 @@ use Rattle.slices.specs.declared.Part.{Part}
 use Rattle.slices.specs.declared.Part.the-variants.{First, Second}
 use Rattle.fdfa.specs.Family.{Closed}
 use Rattle.slices.specs.Refusals.{Fault, sound, _then_, when}
-use Rattle.slices.proofs.Refusals.{when-passes, passed, then-left, then-right, when-sound}
+use Rattle.slices.proofs.Refusals.{passed, then-left, then-right, when-sound}
 use Rattle.packed.specs.Layout.{letterCount, stateCount, sizeOf, leadingAt, progressAt, marksAt, sheetLength, tableStep, decode, Packable, Header, Valid}
 use Rattle.slices.specs.Scans.{outside, scan}
 use Rattle.packed.specs.Faults.{progressFault, headerFault, tablesFault, sheetFault, secondFault, pairFault}
@@ -111,11 +111,13 @@ module _ (part : Part) (b : List ℕ) where
   header-sound : Header b → headerFault part b ≡ sound
   unfolding headerFault
   header-sound h =
-      passed _ (when-passes 1 part _ (le-ltb (length b) 2 (omega (arith, h .long))))
-      ∙ (passed _ (when-passes 2 part 0 (not-outside 1 33 (letterCount b) (h .some-letters) (omega (arith, h .few-letters))))
-      ∙ (passed _ (when-passes 3 part 1 (not-outside 1 33 (stateCount b) (h .some-states) (omega (arith, h .few-states))))
-      ∙ (passed _ (when-passes 1 part _ (le-ltb (length b) (leadingAt b) (h .long)))
-      ∙ sound-scan 4 part 1 33 b 2 (stateCount b) (λ q l. (h .some-size q l, omega (arith, h .few-size q l))))))
+      rw (
+        le-ltb (length b) 2 (omega (arith, h .long)),
+        not-outside 1 33 (letterCount b) (h .some-letters) (omega (arith, h .few-letters)),
+        not-outside 1 33 (stateCount b) (h .some-states) (omega (arith, h .few-states)),
+        le-ltb (length b) (leadingAt b) (h .long),
+      )
+      (sound-scan 4 part 1 33 b 2 (stateCount b) (λ q l. (h .some-size q l, omega (arith, h .few-size q l))))
 
 -- and so is the whole sheet
 module _ (part : Part) (b : List ℕ) where
@@ -150,10 +152,12 @@ module _ (part : Part) (b : List ℕ) where
   pub valid-sound : Valid b → sheetFault part b ≡ sound
   unfolding sheetFault tablesFault
   valid-sound v =
-      passed _ (header-sound part b (v .header))
-      ∙ (passed _ (when-passes 1 part _ (ap not (eq-eqb (length b) (sheetLength b) (v .exact))))
-      ∙ (passed _ (sound-scan 5 part 0 (stateCount b) b (leadingAt b) _ (λ k l. (omega arith, entry (stateCount b) (leadingAt b) (v .leads) k l)))
-      ∙ good-progress part b (stateCount b) 0 (λ r i l. good r (omega arith))))
+      rw (
+        header-sound part b (v .header),
+        eq-eqb (length b) (sheetLength b) (v .exact),
+        sound-scan 5 part 0 (stateCount b) b (leadingAt b) _ (λ k l. (omega arith, entry (stateCount b) (leadingAt b) (v .leads) k l)),
+      )
+      (good-progress part b (stateCount b) 0 (λ r i l. good r (omega arith)))
     where
       -- an entry of a table, by its place
       entry : (k at : ℕ) → Closed (letterCount b) k (tableStep b at (letterCount b)) → (i : ℕ) → i < k * letterCount b → getD b (at + i) 0 < k
@@ -191,6 +195,4 @@ pair-valid b c e = (
     later = then-right (sheetFault First b) (secondFault (letterCount b) c) e
 
 pub valid-pair : (b c : List ℕ) → Valid b → Valid c → letterCount b ≡ letterCount c → pairFault b c ≡ sound
-valid-pair b c v w e =
-    passed _ (valid-sound First b v)
-    ∙ (passed _ (valid-sound Second c w) ∙ when-passes 7 Second 0 (ap not (eq-eqb (letterCount b) (letterCount c) e)))
+valid-pair b c v w e = rw (valid-sound First b v, valid-sound Second c w, eq-eqb (letterCount b) (letterCount c) e)
