@@ -13,10 +13,10 @@ use writing::product_length;
 use writing::write_product;
 ghost use mathlib.Core.Path.{_≡_};
 ghost use lib.ListN.{length};
-ghost use Rattle.slices.specs.Refusals.{unless, writtenSays};
-ghost use Rattle.slices.specs.Filling.{filled};
+ghost use Rattle.slices.specs.Filling.{Fills};
 ghost use Rattle.pairing.specs.Pairs.{sizesOf};
-ghost use Rattle.boolean.specs.Operations.{complementBytes, complementFault, Pair, productBytes, intersectionBytes, unionBytes, tooShort, productFault};
+ghost use Rattle.boolean.specs.Operations.{tooShort, complementBytes, complementFault};
+ghost use Rattle.boolean.specs.Operations.{productBytes, intersectionBytes, unionBytes, productFault, Pair};
 
 // Which marks of a pair make it marked.
 pub enum Operation {
@@ -26,12 +26,8 @@ pub enum Operation {
 
 // The complement of a sheet: the same sheet, every mark flipped.
 pub fn complement(sheet: &[u8], out: &mut [u8]) -> Written
-    ensures says { λ r. ⌜ writtenSays r
-        ≡ unless (complementFault (now (sheet .entry)) (length (now (out .entry))))
-        (length (complementBytes (now (sheet .entry)))) ⌝ }
-    ensures fills { λ _. ⌜ now (out .exit)
-        ≡ filled (complementFault (now (sheet .entry)) (length (now (out .entry))))
-        (complementBytes (now (sheet .entry))) (now (out .entry)) ⌝ }
+    ensures { λ r. ⌜ Fills (complementFault (now (sheet .entry)) (length (now (out .entry))))
+        (complementBytes (now (sheet .entry))) (now (out .entry)) (now (out .exit)) r ⌝ }
 {
     let validity = packed::check(sheet, Part::First);
     match validity {
@@ -50,12 +46,8 @@ pub fn complement(sheet: &[u8], out: &mut [u8]) -> Written
 // The product of two sheets that can have one, where it fits.
 fn fill_product(first: &[u8], second: &[u8], z: PairSizes, op: Operation, out: &mut [u8]) -> Written
     requires { ⌜ Pair (now first) (now second) × (z ≡ sizesOf (now first) (now second)) ⌝ }
-    ensures says { λ r. ⌜ writtenSays r
-        ≡ unless (tooShort (length (now (out .entry))) (length (productBytes op (now (first .entry)) (now (second .entry)))))
-        (length (productBytes op (now (first .entry)) (now (second .entry)))) ⌝ }
-    ensures fills { λ _. ⌜ now (out .exit)
-        ≡ filled (tooShort (length (now (out .entry))) (length (productBytes op (now (first .entry)) (now (second .entry)))))
-        (productBytes op (now (first .entry)) (now (second .entry))) (now (out .entry)) ⌝ }
+    ensures { λ r. ⌜ Fills (tooShort (length (now (out .entry))) (length (productBytes op (now (first .entry)) (now (second .entry)))))
+        (productBytes op (now (first .entry)) (now (second .entry))) (now (out .entry)) (now (out .exit)) r ⌝ }
 {
     let needed = product_length(first, second, z);
     if out.len() < needed {
@@ -67,12 +59,8 @@ fn fill_product(first: &[u8], second: &[u8], z: PairSizes, op: Operation, out: &
 
 // The product of two sheets: both are judged, then N and K, then the room.
 fn product(first: &[u8], second: &[u8], op: Operation, out: &mut [u8]) -> Written
-    ensures says { λ r. ⌜ writtenSays r
-        ≡ unless (productFault op (now (first .entry)) (now (second .entry)) (length (now (out .entry))))
-        (length (productBytes op (now (first .entry)) (now (second .entry)))) ⌝ }
-    ensures fills { λ _. ⌜ now (out .exit)
-        ≡ filled (productFault op (now (first .entry)) (now (second .entry)) (length (now (out .entry))))
-        (productBytes op (now (first .entry)) (now (second .entry))) (now (out .entry)) ⌝ }
+    ensures { λ r. ⌜ Fills (productFault op (now (first .entry)) (now (second .entry)) (length (now (out .entry))))
+        (productBytes op (now (first .entry)) (now (second .entry))) (now (out .entry)) (now (out .exit)) r ⌝ }
 {
     let pair = pairing::check(first, second);
     match pair {
@@ -91,24 +79,16 @@ fn product(first: &[u8], second: &[u8], op: Operation, out: &mut [u8]) -> Writte
 
 // The intersection of two sheets: a pair is marked when both its states are.
 pub fn intersection(first: &[u8], second: &[u8], out: &mut [u8]) -> Written
-    ensures says { λ r. ⌜ writtenSays r
-        ≡ unless (productFault Operation.Both (now (first .entry)) (now (second .entry)) (length (now (out .entry))))
-        (length (intersectionBytes (now (first .entry)) (now (second .entry)))) ⌝ }
-    ensures fills { λ _. ⌜ now (out .exit)
-        ≡ filled (productFault Operation.Both (now (first .entry)) (now (second .entry)) (length (now (out .entry))))
-        (intersectionBytes (now (first .entry)) (now (second .entry))) (now (out .entry)) ⌝ }
+    ensures { λ r. ⌜ Fills (productFault Operation.Both (now (first .entry)) (now (second .entry)) (length (now (out .entry))))
+        (intersectionBytes (now (first .entry)) (now (second .entry))) (now (out .entry)) (now (out .exit)) r ⌝ }
 {
     product(first, second, Operation::Both, out)
 }
 
 // The union of two sheets: a pair is marked when either of its states is.
 pub fn union(first: &[u8], second: &[u8], out: &mut [u8]) -> Written
-    ensures says { λ r. ⌜ writtenSays r
-        ≡ unless (productFault Operation.Either (now (first .entry)) (now (second .entry)) (length (now (out .entry))))
-        (length (unionBytes (now (first .entry)) (now (second .entry)))) ⌝ }
-    ensures fills { λ _. ⌜ now (out .exit)
-        ≡ filled (productFault Operation.Either (now (first .entry)) (now (second .entry)) (length (now (out .entry))))
-        (unionBytes (now (first .entry)) (now (second .entry))) (now (out .entry)) ⌝ }
+    ensures { λ r. ⌜ Fills (productFault Operation.Either (now (first .entry)) (now (second .entry)) (length (now (out .entry))))
+        (unionBytes (now (first .entry)) (now (second .entry))) (now (out .entry)) (now (out .exit)) r ⌝ }
 {
     product(first, second, Operation::Either, out)
 }

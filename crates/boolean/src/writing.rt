@@ -69,7 +69,8 @@ fn write_pair(
     requires { ⌜ Pair (now first) (now second) × (p < stateCount (now first)) × (q < stateCount (now second)) ⌝ }
     requires { ⌜ length (pairPart op (now first) (now second) p q) ≤ length (now out) ⌝ }
     ensures says { λ r. ⌜ r ≡ length (pairPart op (now (first .entry)) (now (second .entry)) p q) ⌝ }
-    ensures fills { λ _. ⌜ now (out .exit) ≡ written (pairPart op (now (first .entry)) (now (second .entry)) p q) (now (out .entry)) ⌝ }
+    ensures fills { λ _. ⌜ now (out .exit)
+        ≡ written (pairPart op (now (first .entry)) (now (second .entry)) p q) (now (out .entry)) ⌝ }
 {
     let size = packed::size(first, p);
     let t = pairing::progress(first, second, p, q);

@@ -4,13 +4,15 @@ use mathlib.Core.List.{List, [], _∷_, _++_, append-nil, append-assoc}
 use Prim.Native.Nat.{ℕ, suc, _+_, _-_, _≤_, _<_}
 use native.Mathlib.Omega.{arith}
 use native.Mathlib.Numerals.{add-one}
-use lib.ListN.{length, take, drop, set, length-set, length-append, length-take, length-drop, drop-of-length-le}
+use lib.ListN.{length, getD, take, drop, set, length-set, length-append, length-take, length-drop, drop-of-length-le}
 use lib.Seq.{length-take-le, take-all, take-append-seam, drop-append-seam, drop-append-add, drop-drop, drop-cons, set-append-seam}
 use Rattle.slices.specs.declared.Refusal.{Refusal}
-use Rattle.slices.specs.Refusals.{Fault, sound, fault, given, refused, unless}
-use Rattle.slices.specs.Filling.{written, filled}
+use Rattle.slices.specs.declared.Written.{Written}
+use Rattle.slices.specs.declared.Written.the-variants.{Filled, Refused}
+use Rattle.slices.specs.Refusals.{Fault, sound, fault, given, unless}
+use Rattle.slices.specs.Filling.{written, filled, Fills}
 use Rattle.slices.specs.Tables.{tab, rows}
-use Rattle.slices.proofs.Tables.{length-tab, rows-within}
+use Rattle.slices.proofs.Tables.{length-tab, tab-getD, rows-within}
 
 pub written-none : (old : List ℕ) → old ≡ written [] old
 unfolding written
@@ -141,6 +143,10 @@ filling-more {m} {f} {old} {out} {i} v s h d = record { room = s .room; upto = o
 pub filling-all : {m : ℕ} {f : ℕ → ℕ} {old out : List ℕ} {i : ℕ} → Filling m f old out i → m ≤ i → out ≡ written (tab m f) old
 filling-all {m} {f} {old} {out} {i} s h = let e : i ≡ m = omega (arith, s .upto) in s .cells ∙ ap (λ (k : ℕ). written (tab k f) old) e
 
+-- a list, copied cell by cell
+pub filling-copied : (from : List ℕ) {old out : List ℕ} {i : ℕ} → Filling (length from) (λ k. getD from k 0) old out i → length from ≤ i → out ≡ written from old
+filling-copied from {old} s h = filling-all s h ∙ ap (λ (l : List ℕ). written l old) (tab-getD from)
+
 pub rows-begin : (f : ℕ → List ℕ) (old : List ℕ) → Begun (rows 0 f) old old
 unfolding rows
 rows-begin f old = begun-none old
@@ -179,9 +185,18 @@ module _ {m : ℕ} {f : ℕ → List ℕ} {old out : List ℕ} {at x : ℕ} (s :
   pub rows-all : m ≤ x → out ≡ written (rows m f) old
   rows-all h = let e : x ≡ m = omega (arith, s .upto) in s .begun .cells ∙ ap (λ (k : ℕ). written (rows k f) old) e
 
--- what a call that fills the slice says and leaves in it: nothing new where it is refused, and all of it where it is not
-pub fill-refused : (new old : List ℕ) {f : Fault} {r : Refusal} → f ≡ fault r → (refused r ≡ unless f (length new)) × (old ≡ filled f new old)
-fill-refused new old e = (ap (λ (x : Fault). unless x (length new)) (sym e), ap (λ (x : Fault). filled x new old) (sym e))
+-- a call that fills the slice, where it is refused, and where it is not
+pub fill-refused : (new old : List ℕ) {f : Fault} {r : Refusal} → f ≡ fault r → Fills f new old old (Refused r)
+fill-refused new old e = record {
+  says = ap (λ (x : Fault). unless x (length new)) (sym e);
+  cells = ap (λ (x : Fault). filled x new old) (sym e);
+}
 
-pub fill-given : (new old : List ℕ) {f : Fault} → f ≡ sound → (given (length new) ≡ unless f (length new)) × (written new old ≡ filled f new old)
-fill-given new old e = (ap (λ (x : Fault). unless x (length new)) (sym e), ap (λ (x : Fault). filled x new old) (sym e))
+pub fill-given : (new : List ℕ) {old out : List ℕ} {f : Fault} {n : ℕ} → f ≡ sound → n ≡ length new → out ≡ written new old → Fills f new old out (Filled n)
+fill-given new {old} e l d = record {
+  says = ap given l ∙ ap (λ (x : Fault). unless x (length new)) (sym e);
+  cells = d ∙ ap (λ (x : Fault). filled x new old) (sym e);
+}
+
+pub fills-as : {f g : Fault} {new old out : List ℕ} {r : Written} → f ≡ g → Fills f new old out r → Fills g new old out r
+fills-as {new = new} {old = old} {out = out} {r = r} e h = subst (λ (x : Fault). Fills x new old out r) e h

@@ -8,7 +8,7 @@ use lib.ListN.{length, take, drop}
 use lib.Seq.{length-take-le}
 use borrow.Author.Tests.{lt-ltb, le-ltb}
 use Rattle.slices.specs.declared.Part.the-variants.{First, Out}
-use Rattle.slices.specs.Refusals.{sound, given, refused}
+use Rattle.slices.specs.Refusals.{sound, fault}
 use Rattle.slices.proofs.Refusals.{when-fails, when-passes, passed, failed, was-given, was-refused}
 use Rattle.slices.proofs.Filling.{written-prefix, fill-refused, fill-given}
 use Rattle.packed.specs.declared.Sizes.{Sizes}
@@ -61,13 +61,13 @@ returns c =
     let d = c .before .before .before in
     let e = d .before .before in
     let f = passed (tooShort (length (cells e)) (length (bytes e))) (sized d .0) ∙ when-fails 21 Out (length (bytes e)) (lt-ltb _ _ (c .before .if1 .taken)) in
-    let r = fill-refused (complementBytes (bytes e)) (cells e) f in (ap refused (c .refuse .ensures) ∙ r .0, r .1)
+    fill-refused (complementBytes (bytes e)) (cells e) (f ∙ ap fault (sym (c .refuse .ensures)))
 
 slice-relend-prefix-write-complement : tie.Need-slice-relend-prefix-write-complement
 slice-relend-prefix-write-complement c = search needs
 
 slice-aggregate-write-complement : tie.Need-slice-aggregate-write-complement
-slice-aggregate-write-complement c = sym (lent (c .before))
+slice-aggregate-write-complement c = omega (arith, lent (c .before))
 
 write-complement-requires : tie.Need-write-complement-requires
 write-complement-requires c κs =
@@ -88,9 +88,9 @@ returns-3 c =
     let h = c .before .before .before .before in
     let d = h .before .before in
     let e = d .before .before in
-    let g = fill-given (complementBytes (bytes e)) (cells e) (none h) in
     let l = complement-length (bytes e) (valid d) in
-    (ap given (sym l) ∙ g .0, ap (λ (x : List ℕ). x ++ drop (length (bytes e)) (cells e)) (c .before .before .write-complement .ensures) ∙ (written-prefix (complementBytes (bytes e)) (cells e) l ∙ g .1))
+    fill-given (complementBytes (bytes e)) (none h) (sym l)
+    (ap (λ (x : List ℕ). x ++ drop (length (bytes e)) (cells e)) (c .before .before .write-complement .ensures) ∙ written-prefix (complementBytes (bytes e)) (cells e) l)
 
 pub complement-spec : {M : Type 1} → statement M
 complement-spec =

@@ -7,7 +7,7 @@ use denote.Ref.{now}
 use lib.ListN.{length}
 use borrow.Author.Tests.{lt-ltb, le-ltb}
 use Rattle.slices.specs.declared.Part.the-variants.{Out}
-use Rattle.slices.specs.Refusals.{sound, given, refused}
+use Rattle.slices.specs.Refusals.{sound, fault}
 use Rattle.slices.proofs.Refusals.{when-fails, when-passes}
 use Rattle.slices.proofs.Filling.{fill-refused, fill-given}
 use Rattle.pairing.specs.declared.PairSizes.{PairSizes}
@@ -50,8 +50,7 @@ returns : tie.Need-returns
 returns c =
     let d = c .before .before in
     let f = when-fails 21 Out (length (bytes d)) (lt-ltb (length (cells d)) (length (bytes d)) (omega (arith, needed d, c .before .if1 .taken))) in
-    let r = fill-refused (bytes d) (cells d) f in
-    (ap refused (c .refuse .ensures) ∙ ((λ i. refused (record { number = 21; part = Out; place = needed d i })) ∙ r .0), r .1)
+    fill-refused (bytes d) (cells d) (f ∙ ((λ i. fault (record { number = 21; part = Out; place = sym (needed d) i })) ∙ ap fault (sym (c .refuse .ensures))))
 
 write-product-requires : tie.Need-write-product-requires
 write-product-requires c κs = let d = c .before in (start (d .before) .pre, fits d)
@@ -62,9 +61,7 @@ same-length c = search needs
 returns-2 : tie.Need-returns-2
 returns-2 c =
     let d = c .before .before .before .before in
-    let e = d .before in
-    let g = fill-given (bytes e) (cells e) (none d) in
-    (ap given (needed e) ∙ g .0, c .before .before .write-product .ensures ∙ g .1)
+    fill-given (bytes (d .before)) (none d) (needed (d .before)) (c .before .before .write-product .ensures)
 
 pub fill-product-spec : {M : Type 1} → statement M
 fill-product-spec =

@@ -8,10 +8,9 @@ use lib.Dec.{ltb}
 use lib.ListN.{length}
 use borrow.Author.Tests.{lt-ltb, le-ltb}
 use Rattle.slices.specs.declared.Part.the-variants.{Out}
-use Rattle.slices.specs.Refusals.{Fault, sound, fault, _then_, when, refused, unless}
-use Rattle.slices.specs.Filling.{filled}
+use Rattle.slices.specs.Refusals.{Fault, sound, fault, _then_, when}
 use Rattle.slices.proofs.Refusals.{when-fails, when-passes, passed, failed, was-given, was-refused}
-use Rattle.slices.proofs.Filling.{fill-refused}
+use Rattle.slices.proofs.Filling.{fill-refused, fills-as}
 use Rattle.packed.specs.Faults.{pairFault}
 use Rattle.pairing.specs.declared.PairSizes.{PairSizes}
 use Rattle.pairing.specs.Pairs.{sizesOf, says}
@@ -97,8 +96,7 @@ returns : tie.Need-returns
 returns c =
     let e = c .before .before .before .before in
     let d = e .before .before in
-    let r = fill-refused (bytes d) (cells d) (to-pairs e ∙ failed (later d) (beyond _ _ (n-is e) (c .before .if1 .taken))) in
-    (ap refused (c .refuse .ensures) ∙ r .0, r .1)
+    fill-refused (bytes d) (cells d) (to-pairs e ∙ (failed (later d) (beyond _ _ (n-is e) (c .before .if1 .taken)) ∙ ap fault (sym (c .refuse .ensures))))
 
 refuse-requires-2 : tie.Need-refuse-requires-2
 refuse-requires-2 c κs = search needs
@@ -108,8 +106,7 @@ returns-2 c =
     let h = c .before .before .before in
     let e = h .before .before .before in
     let d = e .before .before in
-    let r = fill-refused (bytes d) (cells d) (to-later h ∙ failed (room d) (beyond _ _ (k-is e) (c .before .if2 .taken))) in
-    (ap refused (c .refuse2 .ensures) ∙ r .0, r .1)
+    fill-refused (bytes d) (cells d) (to-later h ∙ (failed (room d) (beyond _ _ (k-is e) (c .before .if2 .taken)) ∙ ap fault (sym (c .refuse2 .ensures))))
 
 fill-product-requires : tie.Need-fill-product-requires
 fill-product-requires c κs =
@@ -135,10 +132,7 @@ same-length c = search needs
 
 returns-4 : tie.Need-returns-4
 returns-4 c =
-    let g = c .before .before in
-    let h = g .before .before in
-    let d = h .before .before .before .before .before .before .before in
-    (g .fill-product .ensures .0 ∙ ap (λ (x : Fault). unless x (length (bytes d))) (sym (to-room h)), g .fill-product .ensures .1 ∙ ap (λ (x : Fault). filled x (bytes d) (cells d)) (sym (to-room h)))
+    let g = c .before .before in fills-as (sym (to-room (g .before .before))) (g .fill-product .ensures)
 
 pub product-spec : {M : Type 1} → statement M
 product-spec =
