@@ -1,4 +1,4 @@
-pub mod Turning
-pub mod Pairing
-pub mod Extent
 pub mod Verdicts
+pub mod Joining
+pub mod Extent
+pub mod Flips

@@ -1,10 +1,10 @@
 -- The sheets that complement, intersection and union write: they are valid, and their verdicts are reversed, both, or either. Assumes nothing.
-use mathlib.Core.Path.{_≡_, refl, ap, sym, _∙_}
+use mathlib.Core.Path.{_≡_, ap, sym, _∙_}
 use mathlib.Core.Bool.{not}
 use mathlib.Core.List.{List}
-use Prim.Native.Nat.{ℕ, _*_, _/_, _%_, _≤_, _<_}
+use Prim.Native.Nat.{ℕ, _*_, _≤_, _<_}
 use native.Mathlib.Omega.{arith}
-use native.Mathlib.Nat.{mod-lt, mul-le-mul}
+use native.Mathlib.Nat.{mul-le-mul}
 use lib.Dec.{ltb}
 use lib.ListN.{length}
 use borrow.Author.Tests.{ltb-false}
@@ -20,13 +20,15 @@ use Rattle.fdfa.proofs.Agreement.{verdict-same}
 use Rattle.fdfa.proofs.Complement.{complement-complete}
 use Rattle.slices.proofs.Extremes.{largest-le}
 use Rattle.slices.proofs.Refusals.{then-left, then-right, when-sound}
-use Rattle.fdfa.proofs.Product.{left-below, product-complete, product-closing, product-of-turn-proof}
+use Rattle.fdfa.proofs.Product.{product-complete, product-closing, product-of-turn-proof}
 use Rattle.packed.specs.Layout.{letterCount, stateCount, sizeOf, decode, pack, Packable, Valid}
 use Rattle.packed.specs.Faults.{pairFault}
 use Rattle.packed.proofs.Packing.{decode-pack, pack-valid}
-use Rattle.packed.proofs.Soundness.{valid-packable, pair-valid}
+use Rattle.packed.proofs.Soundness.{valid-packable}
+use Rattle.pairing.proofs.Within.{sound-alike}
 use Rattle.boolean.specs.declared.Operation.{Operation}
 use Rattle.boolean.specs.Operations.{complementBytes, opOf, productBytes, tooShort, productFault, Pair}
+use Rattle.boolean.proofs.Joining.{size-few}
 
 -- what is read of a packed family has the family's verdicts
 read-back : (F : Fdfa) → Packable F → (u v : List ℕ) → Lasso (F .letters) u v → verdict (decode (pack F)) u v ≡ verdict F u v
@@ -57,12 +59,9 @@ sizes-few b c h p q hp hq =
     omega (arith, mul-le-mul (largest-le (stateCount b) (sizeOf b) p hp) (largest-le (stateCount c) (sizeOf c) q hq))
 
 -- what the calls did not refuse has a product
-pub sound-pair : (op : Operation) (b c : List ℕ) (cells : ℕ) → productFault op b c cells ≡ sound → Pair b c (letterCount b)
+pub sound-pair : (op : Operation) (b c : List ℕ) (cells : ℕ) → productFault op b c cells ≡ sound → Pair b c
 sound-pair op b c cells e = record {
-  first = valid .0;
-  second = valid .1;
-  alike = valid .2;
-  letters-are = refl;
+  alike = sound-alike b c (then-left (pairFault b c) (pairs then progress then room) e);
   few-pairs = ltb-false 32 (stateCount b * stateCount c) (when-sound _ 20 Out _ (then-left pairs (progress then room) rest));
   few-progress = sizes-few b c (ltb-false 32 (widest (decode b) * widest (decode c)) (when-sound _ 20 Out _ (then-left progress room (then-right pairs (progress then room) rest))));
 }
@@ -76,23 +75,20 @@ sound-pair op b c cells e = record {
     room : Fault
     room = tooShort cells (length (productBytes op b c))
 
-    valid : Valid b × Valid c × (letterCount b ≡ letterCount c)
-    valid = pair-valid b c (then-left (pairFault b c) (pairs then progress then room) e)
-
     rest : pairs then progress then room ≡ sound
     rest = then-right (pairFault b c) (pairs then progress then room) e
 
-module _ (op : Operation) (b c : List ℕ) (s : ℕ) (P : Pair b c s) where
+module _ (op : Operation) (b c : List ℕ) (P : Pair b c) where
   both : Complete (decode b) × Complete (decode c)
-  both = (valid-packable b (P .first) .complete, valid-packable c (P .second) .complete)
+  both = (valid-packable b (P .alike .first) .complete, valid-packable c (P .alike .second) .complete)
 
   product-packable : Packable (product (opOf op) (decode b) (decode c))
   product-packable = record {
-    complete = product-complete (opOf op) (decode b) (decode c) (P .alike) (both .0) (both .1);
-    some-letters = P .first .header .some-letters;
-    few-letters = P .first .header .few-letters;
+    complete = product-complete (opOf op) (decode b) (decode c) (P .alike .letters) (both .0) (both .1);
+    some-letters = P .alike .first .header .some-letters;
+    few-letters = P .alike .first .header .few-letters;
     few-states = P .few-pairs;
-    few-progress = λ x h. P .few-progress (x / stateCount c) (x % stateCount c) (left-below (P .second .header .some-states) h) (mod-lt x (P .second .header .some-states));
+    few-progress = size-few P;
   }
 
   pub product-valid : Valid (productBytes op b c)
@@ -104,10 +100,10 @@ module _ (op : Operation) (b c : List ℕ) (s : ℕ) (P : Pair b c s) where
   -- both, or either, for every lasso that is normalized in both sheets
   pub product-verdict : (u v : List ℕ) → Lasso (letterCount b) u v → Normalized (decode b) u v → Normalized (decode c) u v
       → accepts (decode (productBytes op b c)) u v ≡ opOf op (accepts (decode b) u v) (accepts (decode c) u v)
-  product-verdict u v l n m = accepts-back u v l ∙ product-closing (opOf op) (decode b) (decode c) (P .alike) (both .0) (both .1) u v l n m
+  product-verdict u v l n m = accepts-back u v l ∙ product-closing (opOf op) (decode b) (decode c) (P .alike .letters) (both .0) (both .1) u v l n m
 
   -- and for every lasso, where both sheets are turn-proof
   pub turn-proof-verdict : TurnProof (decode b) → TurnProof (decode c) → (u v : List ℕ) → Lasso (letterCount b) u v
       → accepts (decode (productBytes op b c)) u v ≡ opOf op (accepts (decode b) u v) (accepts (decode c) u v)
   turn-proof-verdict tb tc u v l =
-      accepts-back u v l ∙ product-of-turn-proof (opOf op) (decode b) (decode c) (P .alike) (both .0) (both .1) tb tc u v l
+      accepts-back u v l ∙ product-of-turn-proof (opOf op) (decode b) (decode c) (P .alike .letters) (both .0) (both .1) tb tc u v l

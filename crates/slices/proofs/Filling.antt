@@ -4,11 +4,15 @@ use mathlib.Core.List.{List, [], _∷_, _++_, append-nil, append-assoc}
 use Prim.Native.Nat.{ℕ, suc, _+_, _-_, _≤_, _<_}
 use native.Mathlib.Omega.{arith}
 use native.Mathlib.Numerals.{add-one}
-use lib.ListN.{length, take, drop, set, length-set, length-append, length-drop, drop-of-length-le}
+use lib.ListN.{length, getD, take, drop, set, length-set, length-append, length-take, length-drop, drop-of-length-le}
 use lib.Seq.{length-take-le, take-all, take-append-seam, drop-append-seam, drop-append-add, drop-drop, drop-cons, set-append-seam}
-use Rattle.slices.specs.Filling.{written}
+use Rattle.slices.specs.declared.Refusal.{Refusal}
+use Rattle.slices.specs.declared.Written.{Written}
+use Rattle.slices.specs.declared.Written.the-variants.{Filled, Refused}
+use Rattle.slices.specs.Refusals.{Fault, sound, fault, given, unless}
+use Rattle.slices.specs.Filling.{written, filled, Fills}
 use Rattle.slices.specs.Tables.{tab, rows}
-use Rattle.slices.proofs.Tables.{length-tab, rows-within}
+use Rattle.slices.proofs.Tables.{length-tab, tab-getD, rows-within}
 
 pub written-none : (old : List ℕ) → old ≡ written [] old
 unfolding written
@@ -30,14 +34,14 @@ written-cell d old i v z e h =
     next : suc (length d) ≡ length (d ++ (v ∷ []))
     next = omega (arith, length-append d (v ∷ []))
 
--- what is left behind the cells that are filled
+-- what is left behind the cells that are filled, and those cells
 left : (d old : List ℕ) → drop (length d) (written d old) ≡ drop (length d) old
 unfolding written
 left d old = drop-append-seam d (drop (length d) old)
 
-done : (d old : List ℕ) → take (length d) (written d old) ≡ d
+pub written-front : (d old : List ℕ) {n : ℕ} → length d ≡ n → take n (written d old) ≡ d
 unfolding written
-done d old = take-append-seam d (drop (length d) old)
+written-front d old e = ap (λ (k : ℕ). take k (written d old)) (sym e) ∙ take-append-seam d (drop (length d) old)
 
 -- one part more: a part from a on is lent, filled from its start, and comes back
 pub written-part : (d chunk old : List ℕ) (a n : ℕ) → length d ≡ a → length old ≡ n → a + length chunk ≤ n
@@ -45,7 +49,7 @@ pub written-part : (d chunk old : List ℕ) (a n : ℕ) → length d ≡ a → l
 unfolding written
 written-part d chunk old a n e f h =
     ap (λ (k : ℕ). take k (written d old) ++ (written chunk (take (n - k) (drop k (written d old))) ++ drop (n - k) (drop k (written d old)))) (sym e)
-    ∙ (ap₂ (λ (x y : List ℕ). x ++ (written chunk (take (n - length d) y) ++ drop (n - length d) y)) (done d old) (left d old)
+    ∙ (ap₂ (λ (x y : List ℕ). x ++ (written chunk (take (n - length d) y) ++ drop (n - length d) y)) (written-front d old refl) (left d old)
     ∙ (ap₂ (λ (x y : List ℕ). d ++ (written chunk x ++ y)) (take-all (n - length d) rest whole) (none (n - length d) rest whole)
     ∙ (ap (λ (x : List ℕ). d ++ x) (append-nil (written chunk rest)) ∙ (sym (append-assoc d chunk (drop (length chunk) rest)) ∙ ap (λ (x : List ℕ). (d ++ chunk) ++ x) after))))
   where
@@ -60,6 +64,13 @@ written-part d chunk old a n e f h =
 
     after : drop (length chunk) rest ≡ drop (length (d ++ chunk)) old
     after = drop-drop (length chunk) (length d) old ∙ ap (λ (k : ℕ). drop k old) (sym (length-append d chunk))
+
+-- the first n cells are lent, filled as a whole, and come back
+pub written-prefix : (d old : List ℕ) {n : ℕ} → length d ≡ n → written d (take n old) ++ drop n old ≡ written d old
+unfolding written
+written-prefix d old {n} e =
+    ap₂ (λ (x y : List ℕ). (d ++ x) ++ y) (drop-of-length-le (take n old) {i = length d} (omega (arith, length-take n old))) (ap (λ (k : ℕ). drop k old) (sym e))
+    ∙ ap (λ (x : List ℕ). x ++ drop (length d) old) (append-nil d)
 
 -- A slice that was filled from its start with d.
 pub record Begun (d old out : List ℕ) : Type 0 where
@@ -132,6 +143,10 @@ filling-more {m} {f} {old} {out} {i} v s h d = record { room = s .room; upto = o
 pub filling-all : {m : ℕ} {f : ℕ → ℕ} {old out : List ℕ} {i : ℕ} → Filling m f old out i → m ≤ i → out ≡ written (tab m f) old
 filling-all {m} {f} {old} {out} {i} s h = let e : i ≡ m = omega (arith, s .upto) in s .cells ∙ ap (λ (k : ℕ). written (tab k f) old) e
 
+-- a list, copied cell by cell
+pub filling-copied : (from : List ℕ) {old out : List ℕ} {i : ℕ} → Filling (length from) (λ k. getD from k 0) old out i → length from ≤ i → out ≡ written from old
+filling-copied from {old} s h = filling-all s h ∙ ap (λ (l : List ℕ). written l old) (tab-getD from)
+
 pub rows-begin : (f : ℕ → List ℕ) (old : List ℕ) → Begun (rows 0 f) old old
 unfolding rows
 rows-begin f old = begun-none old
@@ -169,3 +184,19 @@ module _ {m : ℕ} {f : ℕ → List ℕ} {old out : List ℕ} {at x : ℕ} (s :
 
   pub rows-all : m ≤ x → out ≡ written (rows m f) old
   rows-all h = let e : x ≡ m = omega (arith, s .upto) in s .begun .cells ∙ ap (λ (k : ℕ). written (rows k f) old) e
+
+-- a call that fills the slice, where it is refused, and where it is not
+pub fill-refused : (new old : List ℕ) {f : Fault} {r : Refusal} → f ≡ fault r → Fills f new old old (Refused r)
+fill-refused new old e = record {
+  says = ap (λ (x : Fault). unless x (length new)) (sym e);
+  cells = ap (λ (x : Fault). filled x new old) (sym e);
+}
+
+pub fill-given : (new : List ℕ) {old out : List ℕ} {f : Fault} {n : ℕ} → f ≡ sound → n ≡ length new → out ≡ written new old → Fills f new old out (Filled n)
+fill-given new {old} e l d = record {
+  says = ap given l ∙ ap (λ (x : Fault). unless x (length new)) (sym e);
+  cells = d ∙ ap (λ (x : Fault). filled x new old) (sym e);
+}
+
+pub fills-as : {f g : Fault} {new old out : List ℕ} {r : Written} → f ≡ g → Fills f new old out r → Fills g new old out r
+fills-as {new = new} {old = old} {out = out} {r = r} e h = subst (λ (x : Fault). Fills x new old out r) e h

@@ -7,10 +7,12 @@ use denote.Ref.{now}
 use lib.ListN.{length}
 use borrow.Author.Tests.{lt-ltb, le-ltb}
 use Rattle.slices.specs.declared.Part.the-variants.{Out}
-use Rattle.slices.specs.Refusals.{Fault, sound, given, refused}
-use Rattle.slices.specs.Filling.{filled}
-use Rattle.slices.proofs.Refusals.{when-fails, when-passes, refuses, gives}
-use Rattle.boolean.specs.Operations.{productBytes, productAt, tooShort}
+use Rattle.slices.specs.Refusals.{sound, fault}
+use Rattle.slices.proofs.Refusals.{when-fails, when-passes}
+use Rattle.slices.proofs.Filling.{fill-refused, fill-given}
+use Rattle.pairing.specs.declared.PairSizes.{PairSizes}
+use Rattle.boolean.specs.Operations.{productBytes, tooShort}
+use Rattle.boolean.specs.Pieces.{productAt}
 use Rattle.boolean.proofs.Extent.{product-length}
 use borrow.Author.Needs.{needs}
 use Rattle.boolean.proofs.fill_product.Statement.{statement}
@@ -28,7 +30,9 @@ cells c = now (start c .args .out)
 needed : (c : tie.After-product-length) → c .product-length .result ≡ length (bytes c)
 needed c =
     let s = start c .args in
-    c .product-length .ensures ∙ (ap (productAt (now (s .first)) (now (s .second))) (start c .pre .2) ∙ sym (product-length (s .op) (now (s .first)) (now (s .second))))
+    let p = start c .pre in
+    c .product-length .ensures
+    ∙ (ap (λ (z : PairSizes). productAt (now (s .first)) (now (s .second)) (z .pairs)) (p .1) ∙ sym (product-length (s .op) (now (s .first)) (now (s .second)) (p .0 .alike)))
 
 fits : (c : tie.Else1) → length (bytes (c .before)) ≤ length (cells (c .before))
 fits c = omega (arith, needed (c .before), c .if1 .left)
@@ -45,10 +49,8 @@ refuse-requires c κs = search needs
 returns : tie.Need-returns
 returns c =
     let d = c .before .before in
-    let f = when-fails 21 Out (length (bytes d)) (lt-ltb (length (cells d)) (length (bytes d)) (omega (arith, needed d, c .before .if1 .taken))) in (
-      ap refused (c .refuse .ensures) ∙ ((λ i. refused (record { number = 21; part = Out; place = needed d i })) ∙ refuses (length (bytes d)) f),
-      ap (λ (x : Fault). filled x (bytes d) (cells d)) (sym f),
-    )
+    let f = when-fails 21 Out (length (bytes d)) (lt-ltb (length (cells d)) (length (bytes d)) (omega (arith, needed d, c .before .if1 .taken))) in
+    fill-refused (bytes d) (cells d) (f ∙ ((λ i. fault (record { number = 21; part = Out; place = sym (needed d) i })) ∙ ap fault (sym (c .refuse .ensures))))
 
 write-product-requires : tie.Need-write-product-requires
 write-product-requires c κs = let d = c .before in (start (d .before) .pre, fits d)
@@ -59,8 +61,7 @@ same-length c = search needs
 returns-2 : tie.Need-returns-2
 returns-2 c =
     let d = c .before .before .before .before in
-    let e = d .before in
-    (ap given (needed e) ∙ gives (length (bytes e)) (none d), c .before .before .write-product .ensures ∙ ap (λ (x : Fault). filled x (bytes e) (cells e)) (sym (none d)))
+    fill-given (bytes (d .before)) (none d) (needed (d .before)) (c .before .before .write-product .ensures)
 
 pub fill-product-spec : {M : Type 1} → statement M
 fill-product-spec =

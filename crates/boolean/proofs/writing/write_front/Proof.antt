@@ -1,16 +1,20 @@
 -- `boolean::writing::write_front` meets its contract: two counts, the sizes, the leading table. Assumes nothing.
-use mathlib.Core.Path.{_≡_, refl, ap, _∙_}
+use mathlib.Core.Path.{_≡_, refl, ap, sym, subst₂, _∙_}
 use mathlib.Core.List.{List, [], _∷_, _++_}
 use Prim.Native.Nat.{ℕ, _+_, _*_, _-_, _≤_}
 use native.Mathlib.Omega.{arith}
 use denote.Ref.{now}
 use lib.ListN.{length, take, drop, set, length-set, length-append}
 use Rattle.slices.specs.Filling.{written}
-use Rattle.slices.proofs.Filling.{Begun, begun-none, begun-cell, begun-more, lent-length}
 use Rattle.slices.specs.Tables.{tab, table}
 use Rattle.slices.proofs.Tables.{length-tab, length-table}
-use Rattle.boolean.specs.Operations.{pairNext, pairSize}
-use Rattle.boolean.proofs.Pairing.{sizes-read, lead-read, front-is}
+use Rattle.slices.proofs.Filling.{Begun, begun-none, begun-cell, begun-more, lent-length}
+use Rattle.pairing.specs.declared.Beside.{Beside}
+use Rattle.pairing.specs.declared.PairSizes.{PairSizes}
+use Rattle.pairing.specs.Pairs.{nextPair, Steps}
+use Rattle.pairing.proofs.Within.{lead-steps}
+use Rattle.boolean.specs.Pieces.{pairSize, productFront}
+use Rattle.boolean.proofs.Extent.{front-few}
 use borrow.Author.Needs.{needs}
 use Rattle.boolean.proofs.writing.write_front.Statement.{statement}
 use Rattle.boolean.proofs.writing.write_front.Tie as tie
@@ -18,59 +22,75 @@ use Rattle.boolean.proofs.writing.write_front.Tie as tie
 abbrev start : tie.After-narrow2 → tie.Start
 start c = c .before .before .before .before .before
 
+few : (s : tie.Start) → let z = s .args .z in (z .pairs ≤ 32) × (z .letters ≤ 32) × (z .pairs * z .letters ≤ 1024)
+few s = front-few (s .pre .0 .0) (s .pre .0 .1)
+
 abbrev old : tie.After-narrow2 → List ℕ
 old c = now (start c .args .out)
 
+-- the counts, and the slice after them
 abbrev counts : tie.After-narrow2 → List ℕ
 counts c = c .before .narrow .result ∷ c .narrow2 .result ∷ []
 
-few-count : (c : tie.Start) → c .args .count ≤ 32
-few-count c = omega (arith, c .pre .0 .2, c .pre .0 .0 .few-pairs)
+abbrev counted : tie.After-narrow2 → List ℕ
+counted c = set (set (old c) 0 (c .before .narrow .result)) 1 (c .narrow2 .result)
 
-begun-counts : (c : tie.After-narrow2) → Begun (counts c) (old c) (set (set (old c) 0 (c .before .narrow .result)) 1 (c .narrow2 .result))
+begun-counts : (c : tie.After-narrow2) → Begun (counts c) (old c) (counted c)
 begun-counts c =
     begun-cell (c .narrow2 .result) (begun-cell (c .before .narrow .result) (begun-none (old c)) refl (omega (arith, start c .pre .1))) refl (omega (arith, start c .pre .1))
 
+-- the sizes, and the slice after them
 abbrev sizes : tie.After-narrow2 → List ℕ
-sizes c = let s = start c .args in tab (s .count) (pairSize (now (s .first)) (now (s .second)) (s .width))
+sizes c = let s = start c .args in tab (s .z .pairs) (pairSize (now (s .first)) (now (s .second)))
 
-sizes-length : (c : tie.After-narrow2) → length (sizes c) ≡ start c .args .count
+sizes-length : (c : tie.After-narrow2) → length (sizes c) ≡ start c .args .z .pairs
 sizes-length c = length-tab _ _
 
--- the slice after the counts
-abbrev first-out : tie.After-narrow2 → List ℕ
-first-out c = set (set (old c) 0 (c .before .narrow .result)) 1 (c .narrow2 .result)
-
-abbrev second-out : tie.After-write-sizes → List ℕ
-second-out c =
-    let o = first-out (c .before .before) in take 2 o ++ (c .write-sizes .last .1 .1 .1 .1 .0 ++ drop (length o - 2) (drop 2 o))
-
-begun-sizes : (c : tie.After-write-sizes) → let d = c .before .before in Begun (counts d ++ sizes d) (old d) (second-out c)
+begun-sizes : (c : tie.After-write-sizes) → let d = c .before .before in let o = counted d in
+    Begun (counts d ++ sizes d) (old d) (take 2 o ++ (c .write-sizes .last .1 .1 .1 .0 ++ drop (length o - 2) (drop 2 o)))
 begun-sizes c =
     let d = c .before .before in
     begun-more (sizes d) _ (begun-counts d) refl (omega (arith, sizes-length d, start d .pre .1)) (c .write-sizes .ensures)
 
-both-length : (c : tie.After-narrow2) → length (counts c ++ sizes c) ≡ 2 + start c .args .count
+both-length : (c : tie.After-narrow2) → length (counts c ++ sizes c) ≡ 2 + start c .args .z .pairs
 both-length c = length-append (counts c) (sizes c) ∙ ap (λ (x : ℕ). 2 + x) (sizes-length c)
 
-lead : (c : tie.After-states2) → List ℕ
-lead c =
-    let s = start (c .before .before .before .before .before .before) .args in
-    table (s .count) (s .letters) (pairNext (now (s .first)) (now (s .second)) (record { first = 2 + c .before .states .result; second = 2 + c .states2 .result; width = s .width; letters = s .letters }))
+-- the leading table
+abbrev sized : tie.After-leads → tie.After-write-sizes
+sized c = c .before .before .before .before
 
-lead-length : (c : tie.After-states2) → let s = start (c .before .before .before .before .before .before) .args in length (lead c) ≡ s .count * s .letters
-unfolding lead
-lead-length c = length-table _ _ _
+abbrev narrowed : tie.After-leads → tie.After-narrow2
+narrowed c = sized c .before .before
+
+abbrev lead : tie.After-leads → List ℕ
+lead c =
+    let s = start (narrowed c) .args in table (s .z .pairs) (c .leads .result .letters) (nextPair (now (s .first)) (now (s .second)) (c .leads .result))
+
+lead-length : (c : tie.After-leads) → let z = start (narrowed c) .args .z in length (lead c) ≡ z .pairs * z .letters
+lead-length c =
+    let s = start (narrowed c) in
+    length-table (s .args .z .pairs) (c .leads .result .letters) (nextPair (now (s .args .first)) (now (s .args .second)) (c .leads .result))
+    ∙ ap (λ (l : ℕ). s .args .z .pairs * l) (ap (λ (t : Beside). t .letters) (c .leads .ensures) ∙ sym (ap (λ (z : PairSizes). z .letters) (s .pre .0 .1)))
+
+-- what is written is the product's front
+front-is : (c : tie.After-leads) → let d = narrowed c in let s = start d .args in (counts d ++ sizes d) ++ lead c ≡ productFront (now (s .first)) (now (s .second))
+front-is c =
+    let d = narrowed c in
+    let s = start d in
+    let z = s .pre .0 .1 in
+    let t = c .leads .ensures in
+    let y = d .before .narrow .ensures ∙ ap (λ (z : PairSizes). z .letters) z in
+    let n = d .narrow2 .ensures ∙ ap (λ (z : PairSizes). z .pairs) z in
+    λ i. ((y i ∷ n i ∷ []) ++ tab (z i .pairs) (pairSize (now (s .args .first)) (now (s .args .second)))) ++ table (z i .pairs) (t i .letters) (nextPair (now (s .args .first)) (now (s .args .second)) (t i))
 
 narrow-requires : tie.Need-narrow-requires
-narrow-requires c κs =
-    let p = c .before .before .before .pre .0 .0 in omega (arith, p .letters-are, p .first .header .few-letters)
+narrow-requires c κs = omega (arith, few (c .before .before .before) .1)
 
 slice-write-out : tie.Need-slice-write-out
-slice-write-out c = omega (arith, c .before .before .before .before .pre .1)
+slice-write-out c = search needs
 
 narrow-requires-2 : tie.Need-narrow-requires-2
-narrow-requires-2 c κs = omega (arith, few-count (c .before .before .before .before))
+narrow-requires-2 c κs = omega (arith, few (c .before .before .before .before) .0)
 
 slice-write-out-2 : tie.Need-slice-write-out-2
 slice-write-out-2 c = simp length-set (omega (arith, start c .pre .1))
@@ -87,67 +107,51 @@ part-write-sizes-end c = search needs
 write-sizes-requires : tie.Need-write-sizes-requires
 write-sizes-requires c κs =
     let d = c .before in
-    let s = start d in (
-      (λ x h. sizes-read (now (s .args .first)) (now (s .args .second)) (s .args .letters) (s .pre .0 .0) (s .args .width) (s .pre .0 .1) x (omega (arith, s .pre .0 .2))),
-      omega (arith, lent-length {a = 2} (begun-counts d) (omega (arith, s .pre .1)), s .pre .1),
-    )
+    let p = start d .pre in
+    (p .0 .0, p .0 .1, omega (arith, lent-length {a = 2} (begun-counts d) (omega (arith, p .1)), p .1))
 
 add-at : tie.Need-add-at
-add-at c = omega (arith, few-count (start (c .before .before .before .before)))
+add-at c = search needs
 
-states-requires : tie.Need-states-requires
-states-requires c κs =
-    let p = start (c .before .before .before .before) .pre .0 .0 in omega (arith, p .first .header .long, p .first .header .some-states)
-
-add-t17 : tie.Need-add-t17
-add-t17 c =
-    let p = start (c .before .before .before .before .before) .pre .0 .0 in omega (arith, c .states .ensures, p .first .header .few-states)
-
-states-requires-2 : tie.Need-states-requires-2
-states-requires-2 c κs =
-    let p = start (c .before .before .before .before .before) .pre .0 .0 in omega (arith, p .second .header .long, p .second .header .some-states)
-
-add-write-table : tie.Need-add-write-table
-add-write-table c =
-    let p = start (c .before .before .before .before .before .before) .pre .0 .0 in omega (arith, c .states2 .ensures, p .second .header .few-states)
+leads-requires : tie.Need-leads-requires
+leads-requires c κs = search needs
 
 sub-write-table : tie.Need-sub-write-table
-sub-write-table c =
-    let d = c .before .before .before .before in omega (arith, begun-sizes d .same, start (d .before .before) .pre .1)
+sub-write-table c = omega (arith, begun-sizes (sized c) .same, start (narrowed c) .pre .1)
 
 part-write-table-start : tie.Need-part-write-table-start
-part-write-table-start c =
-    let d = c .before .before .before .before in omega (arith, begun-sizes d .same, start (d .before .before) .pre .1)
+part-write-table-start c = omega (arith, begun-sizes (sized c) .same, start (narrowed c) .pre .1)
 
 part-write-table-end : tie.Need-part-write-table-end
 part-write-table-end c = search needs
 
 write-table-requires : tie.Need-write-table-requires
 write-table-requires c κs =
-    let d = c .before .before .before .before .before in
-    let s = start (d .before .before) in (
-      (λ x h. lead-read (now (s .args .first)) (now (s .args .second)) (s .args .letters) (s .pre .0 .0) (s .args .width) (s .pre .0 .1) _ _ (ap (λ (n : ℕ). 2 + n) (c .before .before .states .ensures)) (ap (λ (n : ℕ). 2 + n) (c .before .states2 .ensures)) x (omega (arith, s .pre .0 .2))),
-      omega (arith, lent-length {a = 2 + s .args .count} (begun-sizes d) (omega (arith, s .pre .1)), s .pre .1),
+    let e = c .before in
+    let s = start (narrowed e) in
+    let z = s .args .z in
+    let l = length-table (z .pairs) (e .leads .result .letters) (nextPair (now (s .args .first)) (now (s .args .second)) (e .leads .result)) in (
+      subst₂ (λ (t : Beside) (m : ℕ). Steps (now (s .args .first)) (now (s .args .second)) t m) (sym (e .leads .ensures)) (sym (ap (λ (z : PairSizes). z .pairs) (s .pre .0 .1))) (lead-steps (s .pre .0 .0 .alike)),
+      few s .0,
+      omega (arith, l, lead-length e, lent-length {a = 2 + z .pairs} (begun-sizes (sized e)) (omega (arith, s .pre .1)), s .pre .1),
     )
 
+-- all of it, in the slice
+begun-all : (c : tie.After-write-table) → let e = c .before .before in let d = narrowed e in let a = 2 + start d .args .z .pairs in let o = take 2 (counted d) ++ (sized e .write-sizes .last .1 .1 .1 .0 ++ drop (length (counted d) - 2) (drop 2 (counted d))) in
+    Begun ((counts d ++ sizes d) ++ lead e) (old d) (take a o ++ (c .write-table .last .1 .1 .1 .1 .0 ++ drop (length o - a) (drop a o)))
+begun-all c =
+    let e = c .before .before in
+    let d = narrowed e in
+    begun-more (lead e) _ (begun-sizes (sized e)) (both-length d) (omega (arith, lead-length e, start d .pre .1)) (c .write-table .ensures)
+
 same-length : tie.Need-same-length
-unfolding lead
-same-length c =
-    let e = c .before .before .before .before in
-    let d = e .before .before .before .before in
-    let b = d .before .before in
-    begun-more (lead e) _ (begun-sizes d) (both-length b) (omega (arith, lead-length e, start b .pre .1)) (c .before .before .write-table .ensures) .same
+same-length c = begun-all (c .before .before) .same
 
 returns : tie.Need-returns
-unfolding lead
 returns c =
-    let e = c .before .before .before .before in
-    let d = e .before .before .before .before in
-    let b = d .before .before in
-    let s = start b in
-    begun-more (lead e) _ (begun-sizes d) (both-length b) (omega (arith, lead-length e, s .pre .1)) (c .before .before .write-table .ensures) .cells
-    ∙ ap (λ (l : List ℕ). written l (old b)) (ap (λ (z : ℕ). ((b .before .narrow .result ∷ z ∷ []) ++ sizes b) ++ lead e) (b .narrow2 .ensures)
-    ∙ front-is (now (s .args .first)) (now (s .args .second)) (s .args .letters) (s .pre .0 .0) (s .args .width) (s .pre .0 .1) _ _ (ap (λ (n : ℕ). 2 + n) (e .before .states .ensures)) (ap (λ (n : ℕ). 2 + n) (e .states2 .ensures)) _ (s .args .count) (b .before .narrow .ensures ∙ s .pre .0 .0 .letters-are) (s .pre .0 .2))
+    let w = c .before .before in
+    let e = w .before .before in
+    begun-all w .cells ∙ ap (λ (l : List ℕ). written l (old (narrowed e))) (front-is e)
 
 pub write-front-spec : {M : Type 1} → statement M
 write-front-spec =
@@ -162,10 +166,7 @@ write-front-spec =
     part-write-sizes-end
     write-sizes-requires
     add-at
-    states-requires
-    add-t17
-    states-requires-2
-    add-write-table
+    leads-requires
     sub-write-table
     part-write-table-start
     part-write-table-end

@@ -1,54 +1,41 @@
 -- `boolean::writing::write_sizes` meets its contract. Assumes nothing.
-use mathlib.Core.Path.{_≡_, ap₂, _∙_}
-use Prim.Native.Nat.{ℕ, _*_, _-_}
+use mathlib.Core.Path.{ap, _∙_}
+use Prim.Native.Nat.{_-_}
 use native.Mathlib.Omega.{arith}
-use denote.Ref.{now}
 use Rattle.slices.proofs.Filling.{Filling, filling-none, filling-more, filling-all}
-use Rattle.boolean.specs.Operations.{pairSize, SizeReads}
+use Rattle.pairing.specs.declared.PairSizes.{PairSizes}
+use Rattle.boolean.specs.Pieces.{pairSize}
+use Rattle.boolean.proofs.Joining.{size-few}
 use borrow.Author.Needs.{needs}
 use Rattle.boolean.proofs.writing.write_sizes.Statement.{statement}
 use Rattle.boolean.proofs.writing.write_sizes.Tie as tie
 
 abbrev Inv-loop : tie.InvT-loop
-Inv-loop first second width count out₀ x₀ out x = Filling count (pairSize first second width) out₀ out x
+Inv-loop first second z out₀ x₀ out x = Filling (z .pairs) (pairSize first second) out₀ out x
 
 abbrev μ-loop : tie.MeasureT-loop
-μ-loop first second width count out₀ x₀ out x = count - x
+μ-loop first second z out₀ x₀ out x = z .pairs - x
 
 abbrev start : tie.At-loop Inv-loop μ-loop → tie.Start Inv-loop μ-loop
 start c = c .before .before .before .before
 
-reads : (c : tie.In-loop Inv-loop μ-loop) → let s = start (c .before) .args in SizeReads (now (s .first)) (now (s .second)) (s .width) (c .before .loop .x)
-reads c = start (c .before) .pre .0 (c .before .loop .x) (c .loop-test .taken)
-
-size-is : (c : tie.After-size2 Inv-loop μ-loop) → let s = start (c .before .before .before) .args in
-    c .before .size .result * c .size2 .result ≡ pairSize (now (s .first)) (now (s .second)) (s .width) (c .before .before .before .loop .x)
-size-is c = ap₂ (λ (y z : ℕ). y * z) (c .before .size .ensures) (c .size2 .ensures)
-
 loop-holds : tie.Need-loop-holds Inv-loop μ-loop
-loop-holds c = filling-none _ _ _ (c .before .before .before .pre .1)
+loop-holds c = filling-none _ _ _ (c .before .before .before .pre .2)
 
-div-size : tie.Need-div-size Inv-loop μ-loop
-div-size c = omega (arith, reads c .wide)
-
-size-requires : tie.Need-size-requires Inv-loop μ-loop
-size-requires c κs = reads c .first
-
-rem-size : tie.Need-rem-size Inv-loop μ-loop
-rem-size c = omega (arith, reads (c .before) .wide)
-
-size-requires-2 : tie.Need-size-requires-2 Inv-loop μ-loop
-size-requires-2 c κs = reads (c .before) .second
-
-mul-narrow : tie.Need-mul-narrow Inv-loop μ-loop
-mul-narrow c = omega (arith, size-is c, reads (c .before .before) .byte)
+size-of-requires : tie.Need-size-of-requires Inv-loop μ-loop
+size-of-requires c κs = let p = start (c .before .before) .pre in (p .0, p .1, c .if1 .taken)
 
 narrow-requires : tie.Need-narrow-requires Inv-loop μ-loop
-narrow-requires c κs = omega (arith, size-is c, reads (c .before .before) .byte)
+narrow-requires c κs =
+    let i = c .before .before .before in
+    let p = start i .pre in
+    omega (arith, c .size-of .ensures, size-few (p .0) (i .loop .x) (omega (arith, c .before .if1 .taken, ap (λ (z : PairSizes). z .pairs) (p .1))))
 
 slice-write-out : tie.Need-slice-write-out Inv-loop μ-loop
 slice-write-out c =
-    let i = c .before .before .before .before .loop .inv in omega (arith, i .room, i .same, c .before .before .before .loop-test .taken)
+    let d = c .before .before in
+    let i = d .before .before .loop .inv in
+    omega (arith, i .room, i .same, d .if1 .taken)
 
 add-x : tie.Need-add-x Inv-loop μ-loop
 add-x c = search needs
@@ -58,13 +45,14 @@ loop-less c = search needs
 
 loop-again : tie.Need-loop-again Inv-loop μ-loop
 loop-again c =
-    filling-more _ (c .before .before .before .before .loop .inv) (c .before .before .before .loop-test .taken) (c .narrow .ensures ∙ size-is (c .before))
+    let d = c .before .before in
+    filling-more _ (d .before .before .loop .inv) (d .if1 .taken) (c .narrow .ensures ∙ c .before .size-of .ensures)
 
 same-length : tie.Need-same-length Inv-loop μ-loop
-same-length c = c .before .loop .inv .same
+same-length c = c .before .before .loop .inv .same
 
 returns : tie.Need-returns Inv-loop μ-loop
-returns c = filling-all (c .before .loop .inv) (c .loop-test .left)
+returns c = filling-all (c .before .before .loop .inv) (c .if1 .left)
 
 pub write-sizes-spec : {M : Type 1} → statement M
 write-sizes-spec =
@@ -73,11 +61,7 @@ write-sizes-spec =
     Inv-loop
     μ-loop
     loop-holds
-    div-size
-    size-requires
-    rem-size
-    size-requires-2
-    mul-narrow
+    size-of-requires
     narrow-requires
     slice-write-out
     add-x

@@ -1,111 +1,84 @@
--- `boolean::writing::write_table` meets its contract: row after row. Assumes nothing.
-use mathlib.Core.Path.{_≡_, ap, sym, _∙_}
+-- `boolean::writing::write_table` meets its contract: the table in 16 bits, then as bytes. Assumes nothing.
+use mathlib.Core.Path.{_≡_, ap, sym, subst, _∙_}
 use mathlib.Core.List.{List}
-use Prim.Native.Nat.{ℕ, _+_, _*_, _-_, _≤_, _<_}
+use Prim.Native.Nat.{ℕ, _*_, _≤_, _<_}
 use native.Mathlib.Omega.{arith}
-use native.Mathlib.Nat.{add-mul, one-mul, mul-le-mul-right, zero-mul}
 use denote.Ref.{now}
-use lib.ListN.{length}
+use lib.ListN.{length, getD, take}
 use Rattle.slices.specs.Filling.{written}
-use Rattle.slices.proofs.Filling.{Begun, begun-as, lent-length, begun-more, rows-begin, rows-next}
-use Rattle.slices.specs.Tables.{tab, table}
-use Rattle.slices.proofs.Tables.{length-tab, length-table}
-use Rattle.boolean.specs.declared.Beside.{Beside}
-use Rattle.boolean.specs.Operations.{pairNext}
+use Rattle.slices.specs.Tables.{table}
+use Rattle.slices.proofs.Tables.{length-table, table-below}
+use Rattle.slices.proofs.Filling.{begun-first, written-front}
+use Rattle.packed.proofs.Bounds.{few-both}
+use Rattle.pairing.specs.Pairs.{nextPair}
 use borrow.Author.Needs.{needs}
 use Rattle.boolean.proofs.writing.write_table.Statement.{statement}
 use Rattle.boolean.proofs.writing.write_table.Tie as tie
 
-abbrev Inv-loop : tie.InvT-loop
-Inv-loop first second t count out₀ s at₀ x₀ out at x = (x ≤ count) × (at ≡ x * s) × Begun (table x s (pairNext first second t)) out₀ out
+abbrev start : tie.After-tabulate → tie.Start
+start c = c .before .before .before .before .before
 
-abbrev μ-loop : tie.MeasureT-loop
-μ-loop first second t count out₀ s at₀ x₀ out at x = count - x
+abbrev whole : tie.Start → List ℕ
+whole s = table (s .args .count) (s .args .t .letters) (nextPair (now (s .args .first)) (now (s .args .second)) (s .args .t))
 
-row-after : (x s : ℕ) → (x + 1) * s ≡ x * s + s
-row-after x s = omega (arith, add-mul x 1 s, one-mul s)
+whole-length : (s : tie.Start) → length (whole s) ≡ s .args .count * s .args .t .letters
+whole-length s = length-table _ _ _
 
-row-room : (s : ℕ) {x count n : ℕ} → x < count → count * s ≤ n → x * s + s ≤ n
-row-room s {x} {count} h l = let k : x + 1 ≤ count = omega arith in omega (arith, mul-le-mul-right s k, row-after x s)
+few : (s : tie.Start) → s .args .count * s .args .t .letters ≤ 1024
+few s = few-both (s .pre .1) (s .pre .0 .few-letters)
 
-abbrev start : tie.At-loop Inv-loop μ-loop → tie.Start Inv-loop μ-loop
-start c = c .before .before .before .before
+-- the cells of the array that are copied
+front : (c : tie.After-tabulate) → take (start c .args .count * start c .args .t .letters) (c .tabulate .last .1 .1 .1 .1 .0) ≡ whole (start c)
+front c =
+    let s = start c in
+    ap (take (s .args .count * s .args .t .letters)) (c .tabulate .ensures) ∙ written-front (whole s) _ (whole-length s)
 
-room : (c : tie.In-loop Inv-loop μ-loop) → let s = start (c .before) .args in c .before .loop .at + s .t .letters ≤ length (now (s .out))
-room c = omega (arith, row-room _ (c .loop-test .taken) (start (c .before) .pre .1), c .before .loop .inv .1)
+small : (s : tie.Start) (i : ℕ) → i < s .args .count * s .args .t .letters → getD (whole s) i 0 < 256
+small s = table-below _ _ _ 256 (λ q a h l. omega (arith, s .pre .0 .closed q a h l, s .pre .1))
 
-abbrev row : tie.At-loop Inv-loop μ-loop → List ℕ
-row c = let s = start c .args in tab (s .t .letters) (pairNext (now (s .first)) (now (s .second)) (s .t) (c .loop .x))
+slice-aggregate-tabulate : tie.Need-slice-aggregate-tabulate
+slice-aggregate-tabulate c = search needs
 
-row-length : (c : tie.At-loop Inv-loop μ-loop) → length (row c) ≡ start c .args .t .letters
-row-length c = length-tab _ _
+tabulate-requires : tie.Need-tabulate-requires
+tabulate-requires c κs = let s = c .before .before .before .before in (s .pre .0, few s)
 
-table-length : (c : tie.At-loop Inv-loop μ-loop) → let s = start c .args in length (table (c .loop .x) (s .t .letters) (pairNext (now (s .first)) (now (s .second)) (s .t))) ≡ c .loop .at
-table-length c = length-table (c .loop .x) _ _ ∙ sym (c .loop .inv .1)
+mul-end : tie.Need-mul-end
+mul-end c = search needs
 
-all-rows : (first second : List ℕ) (t : Beside) (x count : ℕ) → x ≤ count → count ≤ x → table x (t .letters) (pairNext first second t) ≡ table count (t .letters) (pairNext first second t)
-all-rows first second t x count h l = let e : x ≡ count = omega arith in ap (λ (k : ℕ). table k (t .letters) (pairNext first second t)) e
+array-share-prefix-table : tie.Need-array-share-prefix-table
+array-share-prefix-table c =
+    let d = c .before .before in
+    let s = start d in
+    omega (arith, begun-first (d .tabulate .ensures) (omega (arith, whole-length s, few s)) .same, few s)
 
-loop-holds : tie.Need-loop-holds Inv-loop μ-loop
-loop-holds c = (search needs, sym (zero-mul _), rows-begin _ _)
+slice-aggregate-narrow-copy : tie.Need-slice-aggregate-narrow-copy
+slice-aggregate-narrow-copy c =
+    let d = c .before .before .before in sym (ap length (front d) ∙ whole-length (start d))
 
-sub-write-row : tie.Need-sub-write-row Inv-loop μ-loop
-sub-write-row c = omega (arith, room c, c .before .loop .inv .2 .same)
+narrow-copy-requires : tie.Need-narrow-copy-requires
+narrow-copy-requires c κs =
+    let d = c .before .before .before .before in
+    let s = start d in
+    let l = ap length (front d) ∙ whole-length s in
+    (omega (arith, l, s .pre .2), λ i h. subst (λ (w : List ℕ). getD w i 0 < 256) (sym (front d)) (small s i (omega (arith, l, h))))
 
-part-write-row-start : tie.Need-part-write-row-start Inv-loop μ-loop
-part-write-row-start c = omega (arith, room c, c .before .loop .inv .2 .same)
+same-length : tie.Need-same-length
+same-length c = search needs
 
-part-write-row-end : tie.Need-part-write-row-end Inv-loop μ-loop
-part-write-row-end c = search needs
-
-write-row-requires : tie.Need-write-row-requires Inv-loop μ-loop
-write-row-requires c κs =
-    let i = c .before .before in
-    (start i .pre .0 (i .loop .x) (c .before .loop-test .taken), omega (arith, lent-length {a = i .loop .at} (i .loop .inv .2) (omega (arith, room (c .before))), room (c .before)))
-
-add-at : tie.Need-add-at Inv-loop μ-loop
-add-at c =
-    let i = c .before .before .before .before .before in omega (arith, room (c .before .before .before .before), start i .good)
-
-add-x : tie.Need-add-x Inv-loop μ-loop
-add-x c = search needs
-
-loop-less : tie.Need-loop-less Inv-loop μ-loop
-loop-less c = search needs
-
-loop-again : tie.Need-loop-again Inv-loop μ-loop
-loop-again c =
-    let i = c .before .before .before .before .before in
-    let s = start i .args in (
-      search needs,
-      ap (λ (y : ℕ). y + start i .args .t .letters) (i .loop .inv .1) ∙ sym (row-after (i .loop .x) _),
-      begun-as (rows-next (λ y. tab (s .t .letters) (pairNext (now (s .first)) (now (s .second)) (s .t) y)) (i .loop .x))
-          (begun-more (row i) _ (i .loop .inv .2) (table-length i) (omega (arith, room (c .before .before .before .before), row-length i)) (c .before .before .write-row .ensures)),
-    )
-
-same-length : tie.Need-same-length Inv-loop μ-loop
-same-length c = c .before .loop .inv .2 .same
-
-returns : tie.Need-returns Inv-loop μ-loop
+returns : tie.Need-returns
 returns c =
-    let i = c .before in
-    let s = start i .args in
-    i .loop .inv .2 .cells ∙ ap (λ (d : List ℕ). written d (now (s .out))) (all-rows (now (s .first)) (now (s .second)) (s .t) (i .loop .x) (s .count) (i .loop .inv .0) (c .loop-test .left))
+    let d = c .before .before .before .before .before .before .before in
+    c .before .before .narrow-copy .ensures ∙ ap (λ (l : List ℕ). written l (now (start d .args .out))) (front d)
 
 pub write-table-spec : {M : Type 1} → statement M
 write-table-spec =
     tie.close
     (tie.spec
-    Inv-loop
-    μ-loop
-    loop-holds
-    sub-write-row
-    part-write-row-start
-    part-write-row-end
-    write-row-requires
-    add-at
-    add-x
-    loop-less
-    loop-again
+    slice-aggregate-tabulate
+    tabulate-requires
+    mul-end
+    array-share-prefix-table
+    slice-aggregate-narrow-copy
+    narrow-copy-requires
     same-length
     returns)

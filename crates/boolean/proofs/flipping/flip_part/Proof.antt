@@ -1,4 +1,4 @@
--- `boolean::turn_part` meets its contract: the next states, then the marks. Assumes nothing.
+-- `boolean::flipping::flip_part` meets its contract: the next states, then the marks. Assumes nothing.
 use mathlib.Core.Path.{_≡_, ap, sym, _∙_}
 use mathlib.Core.List.{List}
 use Prim.Native.Nat.{ℕ, _-_, _≤_}
@@ -10,10 +10,10 @@ use Rattle.slices.proofs.Filling.{Begun, begun-first, begun-more}
 use Rattle.slices.specs.Filling.{written}
 use Rattle.slices.specs.Tables.{tab}
 use Rattle.slices.proofs.Tables.{length-tab}
-use Rattle.boolean.specs.Operations.{turnedMark}
+use Rattle.boolean.specs.Pieces.{flippedMark}
 use borrow.Author.Needs.{needs}
-use Rattle.boolean.proofs.turn_part.Statement.{statement}
-use Rattle.boolean.proofs.turn_part.Tie as tie
+use Rattle.boolean.proofs.flipping.flip_part.Statement.{statement}
+use Rattle.boolean.proofs.flipping.flip_part.Tie as tie
 
 abbrev start : tie.After-copy → tie.Start
 start c = c .before .before .before .before .before
@@ -28,10 +28,10 @@ begun c = begun-first (c .copy .ensures) (omega (arith, first-length (start c), 
 marks-are : (part : List ℕ) (count : ℕ) → count ≤ length part → take (length part - count) (drop count part) ≡ drop count part
 marks-are part count h = take-all (length part - count) (drop count part) (omega (arith, length-drop count part))
 
-turned-are : (part : List ℕ) (count : ℕ) → count ≤ length part
-    → tab (length (take (length part - count) (drop count part))) (turnedMark (take (length part - count) (drop count part))) ≡ tab (length part - count) (turnedMark (drop count part))
-turned-are part count h =
-    ap (λ (l : List ℕ). tab (length l) (turnedMark l)) (marks-are part count h) ∙ ap (λ (k : ℕ). tab k (turnedMark (drop count part))) (length-drop count part)
+flipped-are : (part : List ℕ) (count : ℕ) → count ≤ length part
+    → tab (length (take (length part - count) (drop count part))) (flippedMark (take (length part - count) (drop count part))) ≡ tab (length part - count) (flippedMark (drop count part))
+flipped-are part count h =
+    ap (λ (l : List ℕ). tab (length l) (flippedMark l)) (marks-are part count h) ∙ ap (λ (k : ℕ). tab k (flippedMark (drop count part))) (length-drop count part)
 
 slice-aggregate-copy : tie.Need-slice-aggregate-copy
 slice-aggregate-copy c = sym (first-length (c .before .before .before))
@@ -39,26 +39,26 @@ slice-aggregate-copy c = sym (first-length (c .before .before .before))
 copy-requires : tie.Need-copy-requires
 copy-requires c κs = let s = c .before .before .before .before in omega (arith, first-length s, s .pre .0, s .pre .1)
 
-sub-turn-marks : tie.Need-sub-turn-marks
-sub-turn-marks c = search needs
+sub-flip-marks : tie.Need-sub-flip-marks
+sub-flip-marks c = search needs
 
-part-turn-marks-start : tie.Need-part-turn-marks-start
-part-turn-marks-start c = search needs
+part-flip-marks-start : tie.Need-part-flip-marks-start
+part-flip-marks-start c = search needs
 
-part-turn-marks-end : tie.Need-part-turn-marks-end
-part-turn-marks-end c = search needs
+part-flip-marks-end : tie.Need-part-flip-marks-end
+part-flip-marks-end c = search needs
 
-sub-turn-marks-2 : tie.Need-sub-turn-marks-2
-sub-turn-marks-2 c = search needs
+sub-flip-marks-2 : tie.Need-sub-flip-marks-2
+sub-flip-marks-2 c = search needs
 
-part-turn-marks-start-2 : tie.Need-part-turn-marks-start-2
-part-turn-marks-start-2 c = search needs
+part-flip-marks-start-2 : tie.Need-part-flip-marks-start-2
+part-flip-marks-start-2 c = search needs
 
-part-turn-marks-end-2 : tie.Need-part-turn-marks-end-2
-part-turn-marks-end-2 c = search needs
+part-flip-marks-end-2 : tie.Need-part-flip-marks-end-2
+part-flip-marks-end-2 c = search needs
 
-turn-marks-requires : tie.Need-turn-marks-requires
-turn-marks-requires c κs = search needs
+flip-marks-requires : tie.Need-flip-marks-requires
+flip-marks-requires c κs = search needs
 
 same-length : tie.Need-same-length
 same-length c = search needs
@@ -67,24 +67,24 @@ returns : tie.Need-returns
 returns c =
     let d = c .before .before .before .before .before .before .before in
     let s = start d .args in
-    let marks = turnedMark (drop (s .count) (now (s .part))) in
+    let marks = flippedMark (drop (s .count) (now (s .part))) in
     let k = length (now (s .part)) - s .count in
     let o = d .copy .last .1 .0 in
     begun-more (tab k marks) _ (begun d) (first-length (start d)) (omega (arith, length-tab k marks, start d .pre .0, start d .pre .1))
-    (c .before .before .turn-marks .ensures ∙ ap (λ (l : List ℕ). written l (take (length o - s .count) (drop (s .count) o))) (turned-are (now (s .part)) (s .count) (start d .pre .0))) .cells
+    (c .before .before .flip-marks .ensures ∙ ap (λ (l : List ℕ). written l (take (length o - s .count) (drop (s .count) o))) (flipped-are (now (s .part)) (s .count) (start d .pre .0))) .cells
 
-pub turn-part-spec : {M : Type 1} → statement M
-turn-part-spec =
+pub flip-part-spec : {M : Type 1} → statement M
+flip-part-spec =
     tie.close
     (tie.spec
     slice-aggregate-copy
     copy-requires
-    sub-turn-marks
-    part-turn-marks-start
-    part-turn-marks-end
-    sub-turn-marks-2
-    part-turn-marks-start-2
-    part-turn-marks-end-2
-    turn-marks-requires
+    sub-flip-marks
+    part-flip-marks-start
+    part-flip-marks-end
+    sub-flip-marks-2
+    part-flip-marks-start-2
+    part-flip-marks-end-2
+    flip-marks-requires
     same-length
     returns)

@@ -1,4 +1,4 @@
--- `boolean::write_complement` meets its contract: what stands before the parts, then part after part. Assumes nothing.
+-- `boolean::flipping::write_complement` meets its contract: what stands before the parts, then part after part. Assumes nothing.
 use mathlib.Core.Path.{_≡_, refl, ap, sym, _∙_}
 use mathlib.Core.List.{List, _++_}
 use Prim.Native.Nat.{ℕ, _+_, _*_, _-_, _≤_, _<_}
@@ -15,10 +15,10 @@ use Rattle.packed.specs.Layout.{stateCount, progressAt, decode, frontBytes, par
 use Rattle.packed.proofs.Bounds.{few-both, progress-first, progress-next, progress-upto, Body, body}
 use Rattle.packed.proofs.Packing.{front-of, length-front, length-part}
 use Rattle.boolean.specs.Operations.{complementBytes}
-use Rattle.boolean.proofs.Turning.{turned-part, done, done-length, done-next, done-first, begun-again}
+use Rattle.boolean.proofs.Flips.{flipped-part, done, done-length, done-next, done-first, begun-again}
 use borrow.Author.Needs.{needs}
-use Rattle.boolean.proofs.write_complement.Statement.{statement}
-use Rattle.boolean.proofs.write_complement.Tie as tie
+use Rattle.boolean.proofs.flipping.write_complement.Statement.{statement}
+use Rattle.boolean.proofs.flipping.write_complement.Tie as tie
 
 abbrev Inv-loop : tie.InvT-loop
 Inv-loop sheet states letters out₀ at₀ q₀ out at q = (q ≤ states) × (at ≡ progressAt sheet q) × Begun (done sheet q) out₀ out
@@ -120,29 +120,29 @@ add-end c = omega (arith, part c .within, part c .low)
 add-end-2 : tie.Need-add-end-2 Inv-loop μ-loop
 add-end-2 c = omega (arith, part c .within, part c .low)
 
-sub-turn-part : tie.Need-sub-turn-part Inv-loop μ-loop
-sub-turn-part c = omega arith
+sub-flip-part : tie.Need-sub-flip-part Inv-loop μ-loop
+sub-flip-part c = omega arith
 
-part-turn-part-start : tie.Need-part-turn-part-start Inv-loop μ-loop
-part-turn-part-start c = omega arith
+part-flip-part-start : tie.Need-part-flip-part-start Inv-loop μ-loop
+part-flip-part-start c = omega arith
 
-part-turn-part-end : tie.Need-part-turn-part-end Inv-loop μ-loop
-part-turn-part-end c = omega (arith, part c .within)
+part-flip-part-end : tie.Need-part-flip-part-end Inv-loop μ-loop
+part-flip-part-end c = omega (arith, part c .within)
 
-mul-turn-part : tie.Need-mul-turn-part Inv-loop μ-loop
-mul-turn-part c = omega (arith, part (c .before) .table)
+mul-flip-part : tie.Need-mul-flip-part Inv-loop μ-loop
+mul-flip-part c = omega (arith, part (c .before) .table)
 
-sub-turn-part-2 : tie.Need-sub-turn-part-2 Inv-loop μ-loop
-sub-turn-part-2 c = omega (arith, room (c .before))
+sub-flip-part-2 : tie.Need-sub-flip-part-2 Inv-loop μ-loop
+sub-flip-part-2 c = omega (arith, room (c .before))
 
-part-turn-part-start-2 : tie.Need-part-turn-part-start-2 Inv-loop μ-loop
-part-turn-part-start-2 c = omega (arith, room (c .before))
+part-flip-part-start-2 : tie.Need-part-flip-part-start-2 Inv-loop μ-loop
+part-flip-part-start-2 c = omega (arith, room (c .before))
 
-part-turn-part-end-2 : tie.Need-part-turn-part-end-2 Inv-loop μ-loop
-part-turn-part-end-2 c = search needs
+part-flip-part-end-2 : tie.Need-part-flip-part-end-2 Inv-loop μ-loop
+part-flip-part-end-2 c = search needs
 
-turn-part-requires : tie.Need-turn-part-requires Inv-loop μ-loop
-turn-part-requires c κs =
+flip-part-requires : tie.Need-flip-part-requires Inv-loop μ-loop
+flip-part-requires c κs =
     let d = c .before .before in
     let i = d .before .before in
     (omega (arith, lent d), omega (arith, lent d, room d, lent-length {a = i .loop .at} (i .loop .inv .2) (omega (arith, room d, i .loop .inv .2 .same)), i .loop .inv .2 .same))
@@ -160,11 +160,11 @@ loop-again c =
     let s = start i in
     let b = bytes i in
     let q : i .loop .q < stateCount b = omega (arith, s .pre .1 .0, d .before .loop-test .taken) in
-    let chunk = turned-part b (s .pre .0 .0) q (i .loop .inv .1) (d .size .ensures) (s .pre .1 .1) refl in (
+    let chunk = flipped-part b (s .pre .0 .0) q (i .loop .inv .1) (d .size .ensures) (s .pre .1 .1) refl in (
       search needs,
       part d .next,
       begun-as (ap (λ (l : List ℕ). done b (i .loop .q) ++ l) chunk ∙ done-next b (i .loop .q))
-          (begun-more _ _ (i .loop .inv .2) (done-length b (i .loop .q) ∙ sym (i .loop .inv .1)) (omega (arith, ap length chunk, length-part (complement (decode b)) (i .loop .q), part d .next, progress-next b (i .loop .q), i .loop .inv .1, room d, i .loop .inv .2 .same)) (c .before .before .turn-part .ensures)),
+          (begun-more _ _ (i .loop .inv .2) (done-length b (i .loop .q) ∙ sym (i .loop .inv .1)) (omega (arith, ap length chunk, length-part (complement (decode b)) (i .loop .q), part d .next, progress-next b (i .loop .q), i .loop .inv .1, room d, i .loop .inv .2 .same)) (c .before .before .flip-part .ensures)),
     )
 
 same-length : tie.Need-same-length Inv-loop μ-loop
@@ -197,14 +197,14 @@ write-complement-spec =
     mul-end
     add-end
     add-end-2
-    sub-turn-part
-    part-turn-part-start
-    part-turn-part-end
-    mul-turn-part
-    sub-turn-part-2
-    part-turn-part-start-2
-    part-turn-part-end-2
-    turn-part-requires
+    sub-flip-part
+    part-flip-part-start
+    part-flip-part-end
+    mul-flip-part
+    sub-flip-part-2
+    part-flip-part-start-2
+    part-flip-part-end-2
+    flip-part-requires
     add-q
     loop-less
     loop-again

@@ -1,4 +1,4 @@
--- The part of a leading state with its marks turned is its part in the complement. Assumes nothing.
+-- The part of a leading state with its marks flipped is its part in the complement. Assumes nothing.
 use mathlib.Core.Path.{_≡_, refl, ap, ap₂, sym, _∙_}
 use mathlib.Core.Bool.{Bool, not}
 use mathlib.Core.List.{List, _++_, append-nil, append-assoc}
@@ -15,13 +15,14 @@ use Rattle.slices.specs.Tables.{tab, rows, table}
 use Rattle.packed.specs.Layout.{letterCount, stateCount, sizeOf, progressAt, decode, mark, frontBytes, partBytes, Valid}
 use Rattle.slices.proofs.Tables.{getD-tab, tab-same, sum-same, length-rows, length-table}
 use Rattle.packed.proofs.Packing.{mark-says, part-length, length-part, length-front, part-of-bytes}
-use Rattle.boolean.specs.Operations.{turnedMark, turnedPart, complementBytes}
+use Rattle.boolean.specs.Operations.{complementBytes}
+use Rattle.boolean.specs.Pieces.{flippedMark, flippedPart}
 
-turned-bytes : (F : Fdfa) (q : ℕ) → turnedPart (partBytes F q) (F .size q * F .letters) ≡ partBytes (complement F) q
-turned-bytes F q =
+flipped-bytes : (F : Fdfa) (q : ℕ) → flippedPart (partBytes F q) (F .size q * F .letters) ≡ partBytes (complement F) q
+flipped-bytes F q =
     ap₂ (λ (x y : List ℕ). x ++ y) (take-at next marks (F .size q * F .letters) long)
-    (ap₂ (λ (m : ℕ) (l : List ℕ). tab m (turnedMark l)) count (drop-at next marks (F .size q * F .letters) long)
-    ∙ tab-same (F .size q) (turnedMark marks) (λ p. mark (not (F .accepting q p))) (λ p h. ap (λ (x : ℕ). mark (not (eqb x 1))) (getD-tab (F .size q) _ p h) ∙ ap (λ (t : Bool). mark (not t)) (mark-says (F .accepting q p))))
+    (ap₂ (λ (m : ℕ) (l : List ℕ). tab m (flippedMark l)) count (drop-at next marks (F .size q * F .letters) long)
+    ∙ tab-same (F .size q) (flippedMark marks) (λ p. mark (not (F .accepting q p))) (λ p h. ap (λ (x : ℕ). mark (not (eqb x 1))) (getD-tab (F .size q) _ p h) ∙ ap (λ (t : Bool). mark (not t)) (mark-says (F .accepting q p))))
   where
     next : List ℕ
     next = table (F .size q) (F .letters) (F .progress q)
@@ -36,11 +37,11 @@ turned-bytes F q =
     count = omega (arith, length-part F q, part-length (F .size q) (F .letters))
 
 -- as the part is lent from the sheet
-pub turned-part : (b : List ℕ) → Valid b → {q at end k s : ℕ} → q < stateCount b → at ≡ progressAt b q → k ≡ sizeOf b q → s ≡ letterCount b → end ≡ at + k * s + k
-    → turnedPart (take (end - at) (drop at b)) (k * s) ≡ partBytes (complement (decode b)) q
-turned-part b v {q} {at} {end} {k} {s} h ea ek es ee =
-    ap₂ turnedPart (ap (λ (m : ℕ). take m (drop at b)) long ∙ ((λ i. take (ek i * es i + ek i) (drop (ea i) b)) ∙ part-of-bytes b v q h)) (λ i. ek i * es i)
-    ∙ turned-bytes (decode b) q
+pub flipped-part : (b : List ℕ) → Valid b → {q at end k s : ℕ} → q < stateCount b → at ≡ progressAt b q → k ≡ sizeOf b q → s ≡ letterCount b → end ≡ at + k * s + k
+    → flippedPart (take (end - at) (drop at b)) (k * s) ≡ partBytes (complement (decode b)) q
+flipped-part b v {q} {at} {end} {k} {s} h ea ek es ee =
+    ap₂ flippedPart (ap (λ (m : ℕ). take m (drop at b)) long ∙ ((λ i. take (ek i * es i + ek i) (drop (ea i) b)) ∙ part-of-bytes b v q h)) (λ i. ek i * es i)
+    ∙ flipped-bytes (decode b) q
   where
     long : end - at ≡ k * s + k
     long = omega arith
