@@ -7,20 +7,22 @@ use crate::printing::put_refusal;
 use crate::printing::put_text;
 use slices::Written;
 
+// A name and a number.
+pub fn put_one(out: &mut [u8], n: usize, name: &[u8], x: usize) -> usize {
+    let to = put_text(out, n, name);
+    put_number(out, to, x)
+}
+
 pub fn put_written(out: &mut [u8], n: usize, w: Written) -> usize {
     match w {
         Written::Refused(r) => put_refusal(out, n, r),
-        Written::Filled(count) => {
-            let to = put_text(out, n, b"filled");
-            put_number(out, to, count)
-        }
+        Written::Filled(count) => put_one(out, n, b"filled", count),
     }
 }
 
 // Three numbers after a name.
 pub fn put_three(out: &mut [u8], n: usize, name: &[u8], x: usize, y: usize, z: usize) -> usize {
-    let mut to = put_text(out, n, name);
-    to = put_number(out, to, x);
+    let mut to = put_one(out, n, name, x);
     to = put_number(out, to, y);
     put_number(out, to, z)
 }

@@ -58,8 +58,8 @@ fn kind_in(word: &[u8]) -> u8 {
     if 0 < word.len() { word[0] } else { 0 }
 }
 
-// One argument.
-fn take(
+// Reads an argument into the slice that its kind names.
+fn read(
     kind: u8,
     word: &[u8],
     a: &mut [u8],
@@ -79,8 +79,26 @@ fn take(
     }
 }
 
+// Adds an argument to those that are given.
+fn add(
+    given: Given,
+    kind: u8,
+    word: &[u8],
+    a: &mut [u8],
+    b: &mut [u8],
+    c: &mut [u8],
+    d: &mut [u8],
+    w: &mut [u64],
+) -> Given {
+    let found = read(kind, word, a, b, c, d, w);
+    match found {
+        Word::Good(x) => given.with(kind, x),
+        Word::Bad => given.bad(),
+    }
+}
+
 // All arguments of a line, by a form: the call's name and the arguments' kinds.
-pub fn take_all(
+pub fn read_all(
     form: &[u8],
     line: &[u8],
     a: &mut [u8],
@@ -90,14 +108,11 @@ pub fn take_all(
     w: &mut [u64],
 ) -> Given {
     let mut given = nothing();
+    let count = pieces(form, b' ');
     let mut k = 1;
-    while k < pieces(form, b' ') {
+    while k < count {
         let kind = kind_in(piece(form, b' ', k));
-        let found = take(kind, piece(line, b' ', k), a, b, c, d, w);
-        let Word::Good(x) = found else {
-            return given.bad();
-        };
-        given = given.with(kind, x);
+        given = add(given, kind, piece(line, b' ', k), a, b, c, d, w);
         k += 1;
     }
     given

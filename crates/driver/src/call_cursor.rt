@@ -1,6 +1,6 @@
 // The cursor: start, step, rest.
+use crate::answers::put_one;
 use crate::printing::put_bytes;
-use crate::printing::put_number;
 use crate::printing::put_refusal;
 use crate::printing::put_text;
 use crate::words::Word;
@@ -39,11 +39,10 @@ fn cursor_at(part: usize, at: usize) -> Cursor {
 
 fn put_cursor(out: &mut [u8], n: usize, c: Cursor) -> usize {
     let part = c.part;
-    let to = match part {
-        Playing::Prefix => put_text(out, n, b" opening"),
-        Playing::Period => put_text(out, n, b" loop"),
-    };
-    put_number(out, to, c.at)
+    match part {
+        Playing::Prefix => put_one(out, n, b" opening", c.at),
+        Playing::Period => put_one(out, n, b" loop", c.at),
+    }
 }
 
 pub fn start(opening: &[u8], out: &mut [u8], n: usize) -> usize {
@@ -54,9 +53,8 @@ pub fn start(opening: &[u8], out: &mut [u8], n: usize) -> usize {
 fn put_step(s: Step, out: &mut [u8], n: usize) -> usize {
     match s {
         Step::Passed(x, c) => {
-            let to = put_text(out, n, b"passed");
-            let passed = put_number(out, to, slices::wide(x));
-            put_cursor(out, passed, c)
+            let to = put_one(out, n, b"passed", slices::wide(x));
+            put_cursor(out, to, c)
         }
         Step::Refused(r, c) => {
             let to = put_refusal(out, n, r);

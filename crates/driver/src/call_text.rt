@@ -1,9 +1,9 @@
 // The sheet as text: number, read, write. `room` is the slice that they fill.
 use crate::answers::put_lent;
+use crate::answers::put_one;
 use crate::answers::put_written;
 use crate::printing::put_number;
 use crate::printing::put_refusal;
-use crate::printing::put_text;
 use notation::Number;
 use slices::Part;
 
@@ -11,9 +11,8 @@ pub fn number(text: &[u8], place: usize, out: &mut [u8], n: usize) -> usize {
     let answer = notation::numbers::number_at(text, place);
     match answer {
         Number::Good(x, next) => {
-            let to = put_text(out, n, b"number");
-            let valued = put_number(out, to, x);
-            put_number(out, valued, next)
+            let to = put_one(out, n, b"number", x);
+            put_number(out, to, next)
         }
         Number::Bad(at) => put_refusal(out, n, slices::refuse(11, Part::First, at)),
     }

@@ -1,6 +1,6 @@
 // The table of the calls. A new call has a form in `answer` and an arm in `make`.
 use crate::arguments::Given;
-use crate::arguments::take_all;
+use crate::arguments::read_all;
 use crate::call_boolean;
 use crate::call_cursor;
 use crate::call_search;
@@ -115,7 +115,7 @@ pub fn answer(
     let forms =
         b"check a|verdict a b c|complement a b|intersection a b c|union a b c|compare a b c d w|emptiness a b c w|start a|step p n a b|rest p n a b|number a n|read a b|write a b";
     let call = find(forms, line);
-    let given = take_all(piece(forms, b'|', call), line, a, b, c, d, w);
+    let given = read_all(piece(forms, b'|', call), line, a, b, c, d, w);
     if !given.is_good {
         return put_no_call(out, n);
     }

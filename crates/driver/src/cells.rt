@@ -6,8 +6,6 @@ use crate::words::Word;
 use crate::words::number_in;
 use crate::words::until;
 use slices::narrow;
-ghost use Prim.Native.Nat.{_≤_};
-ghost use lib.ListN.{length};
 
 // Equal cells: how many, and their value.
 enum Item {
@@ -38,37 +36,6 @@ fn item_in(text: &[u8]) -> Item {
     run_of(Word::Good(1), number_in(text))
 }
 
-// How many cells there are with `count` after the first n, where `room` has so many.
-fn grown(n: usize, count: usize, room: usize) -> Word {
-    if room < n {
-        return Word::Bad;
-    }
-    if room - n < count {
-        return Word::Bad;
-    }
-    Word::Good(n + count)
-}
-
-fn fill(out: &mut [u8], from: usize, to: usize, x: u8) {
-    let mut i = from;
-    while i < to {
-        if i < out.len() {
-            out[i] = x;
-        }
-        i += 1;
-    }
-}
-
-fn fill_cells(out: &mut [u64], from: usize, to: usize, x: u64) {
-    let mut i = from;
-    while i < to {
-        if i < out.len() {
-            out[i] = x;
-        }
-        i += 1;
-    }
-}
-
 // Puts an item after the first n bytes; how many there are then.
 fn put_item(text: &[u8], out: &mut [u8], n: usize) -> Word {
     let item = item_in(text);
@@ -78,11 +45,14 @@ fn put_item(text: &[u8], out: &mut [u8], n: usize) -> Word {
     if 255 < x {
         return Word::Bad;
     }
-    let more = grown(n, count, out.len());
-    let Word::Good(m) = more else {
+    if out.len() < n {
         return Word::Bad;
-    };
-    fill(out, n, m, narrow(x));
+    }
+    if out.len() - n < count {
+        return Word::Bad;
+    }
+    let m = n + count;
+    fill(&mut out[n..m], narrow(x));
     Word::Good(m)
 }
 
@@ -92,12 +62,31 @@ fn put_cell_item(text: &[u8], out: &mut [u64], n: usize) -> Word {
     let Item::Run(count, x) = item else {
         return Word::Bad;
     };
-    let more = grown(n, count, out.len());
-    let Word::Good(m) = more else {
+    if out.len() < n {
         return Word::Bad;
-    };
-    fill_cells(out, n, m, x as u64);
+    }
+    if out.len() - n < count {
+        return Word::Bad;
+    }
+    let m = n + count;
+    fill_cells(&mut out[n..m], x as u64);
     Word::Good(m)
+}
+
+fn fill(part: &mut [u8], x: u8) {
+    let mut i = 0;
+    while i < part.len() {
+        part[i] = x;
+        i += 1;
+    }
+}
+
+fn fill_cells(part: &mut [u64], x: u64) {
+    let mut i = 0;
+    while i < part.len() {
+        part[i] = x;
+        i += 1;
+    }
 }
 
 fn is_empty(word: &[u8]) -> bool {

@@ -5,8 +5,6 @@ use crate::parts::between;
 use crate::parts::front;
 use crate::printing::flush;
 use crate::words::until;
-ghost use Prim.Native.Nat.{_≤_};
-ghost use lib.ListN.{length};
 
 // The buffer holds the first `end` bytes. The line at hand begins at `start`, and no line feed stands from there up to `seen`.
 // The line at hand is the rest of one too long where `is_long`; the input has ended where `is_over`. The output buffer has `out`

@@ -42,18 +42,17 @@ pub fn pieces(s: &[u8], mark: u8) -> usize {
 fn after(s: &[u8], mark: u8, k: usize) -> usize
     ensures { λ r. ⌜ r ≤ length (now (s .entry)) ⌝ }
 {
-    let mut seen = 0;
+    let mut at = 0;
     let mut i = 0;
-    while i < s.len() {
-        if seen == k {
-            return i;
+    while i < k {
+        let end = until(s, mark, at);
+        if s.len() <= end {
+            return end;
         }
-        if s[i] == mark {
-            seen += 1;
-        }
+        at = end + 1;
         i += 1;
     }
-    i
+    at
 }
 
 // The piece after the first k marks.
