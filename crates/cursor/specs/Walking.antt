@@ -64,7 +64,7 @@ ifSound (fault r) a b = b
 abbrev pub restOf : Cursor → List ℕ → List ℕ → List ℕ
 restOf c u v = ifSound (stepFault c u v) (drop (c .at) (named c u v)) []
 
--- Where it lies in the caller's memory, by block and offset, given where prefix and period lie: nothing lies at the prefix's start.
+-- Where it lies in the caller's memory, by block and offset, given where prefix and period lie: the empty part is at the prefix's start.
 abbrev pub lies : Phase → ℕ × ℕ → ℕ × ℕ → ℕ × ℕ
 lies Prefix p q = p
 lies Period p q = q
