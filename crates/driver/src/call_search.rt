@@ -4,8 +4,8 @@ use crate::answers::put_more;
 use crate::answers::put_more_cells;
 use crate::answers::put_three;
 use crate::printing::put_refusal;
-use inclusion::Outcome;
 use inclusion::Comparison;
+use inclusion::Outcome;
 
 fn put_comparison(out: &mut [u8], n: usize, name: &[u8], z: Comparison) -> usize {
     put_three(out, n, name, z.reached, z.prefix, z.period)

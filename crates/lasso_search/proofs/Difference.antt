@@ -1,6 +1,5 @@
 -- The difference of two sheets, as the code reads it: the tables and marks of a pair of leading states. Assumes nothing.
 use mathlib.Core.Path.{_≡_, refl, ap, sym, subst, _∙_}
-use mathlib.Core.Bool.{Bool}
 use mathlib.Core.List.{List}
 use Prim.Native.Nat.{ℕ, _+_, _*_, _-_, _/_, _%_, _≤_, _<_}
 use native.Mathlib.Omega.{arith}
@@ -12,17 +11,16 @@ use Rattle.slices.specs.Tables.{table}
 use Rattle.slices.proofs.Extremes.{largest-le}
 use Rattle.slices.proofs.Filling.{length-written}
 use Rattle.slices.proofs.Tables.{length-table, getD-table}
-use Rattle.fdfa.specs.Family.{Fdfa, Complete}
+use Rattle.fdfa.specs.Family.{Complete}
 use Rattle.fdfa.specs.Boolean.{beside}
 use Rattle.fdfa.specs.Inclusion.{widest}
 use Rattle.fdfa.proofs.Product.{left-below, product-complete}
 use Rattle.fdfa.proofs.Inclusion.{butNot}
-use Rattle.packed.specs.Layout.{letterCount, stateCount, sizeOf, leadingAt, progressAt, tableStep, decode}
+use Rattle.packed.specs.Layout.{stateCount, sizeOf, leadingAt, progressAt, tableStep, decode}
 use Rattle.packed.proofs.Soundness.{valid-packable}
 use Rattle.pairing.specs.declared.Beside.{Beside}
 use Rattle.pairing.specs.Pairs.{Alike, leadsOf, progressOf, marksOf, nextPair, sizesOf, Steps}
 use Rattle.pairing.proofs.Within.{few-progress, progress-steps, marks-read}
-use Rattle.search.specs.Search.{rowStep}
 use Rattle.lasso_search.specs.Lassos.{difference}
 use Rattle.lasso_search.specs.Codes.{Tabulated, EndReads, endsAt, Room}
 

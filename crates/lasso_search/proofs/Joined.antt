@@ -1,31 +1,26 @@
 -- Searches over tables and the automata whose steps the tables have. Assumes nothing.
-use mathlib.Core.Path.{_≡_, refl, ap, sym, subst, subst₂, _∙_}
-use mathlib.Core.Bool.{Bool, true, false, cond, _&&_, true≢false}
+use mathlib.Core.Path.{_≡_, refl, ap, sym, _∙_}
+use mathlib.Core.Bool.{Bool, true, false, cond, _&&_}
 use mathlib.Core.List.{List}
-use Prim.Native.Nat.{ℕ, zero, suc, _+_, _*_, _-_, _/_, _%_, _≤_, _<_}
+use Prim.Native.Nat.{ℕ, _+_, _*_, _-_, _/_, _%_, _≤_, _<_}
 use native.Mathlib.Omega.{arith}
-use native.Mathlib.Nat.{mod-lt, zero-mul, zero-add, add-zero}
 use lib.Arith.{digits-div, digits-mod}
 use lib.Dec.{eqb}
-use lib.ListN.{length, getD, take}
-use lib.Seq.{getD-take}
-use borrow.Author.Tests.{eq-eqb, eqb-true, ne-eqb}
+use lib.ListN.{length, getD}
+use borrow.Author.Tests.{eq-eqb, eqb-true}
 use Rattle.slices.proofs.Tests.{and-left, and-right, both}
 use Rattle.fdfa.specs.Family.{Closed}
 use Rattle.fdfa.specs.Boolean.{beside}
-use Rattle.fdfa.specs.Inclusion.{Counts, Reached}
-use Rattle.search.specs.Words.{Word, ε, _·_, _⊑_, run, Over, letters}
-use Rattle.search.specs.Queue.{placeAt, stateAt, met}
-use Rattle.search.specs.Paths.{Path, at-root, at-step}
-use Rattle.search.specs.Search.{Space, reach, Bounded, Search, Ends, rowStep, Tables, Aim, joint, Ready, Searchable}
+use Rattle.search.specs.Words.{Word, ε, _·_, _⊑_, run, Over}
+use Rattle.search.specs.Queue.{met}
+use Rattle.search.specs.Search.{Space, reach, Bounded, Search, Ends, rowStep, Tables, Aim, joint, Ready}
 use Rattle.search.proofs.Product.{run-within, prod-run}
-use Rattle.search.proofs.Marks.{met-none, met-set, counts}
-use Rattle.search.proofs.Letters.{letters-over, walk-letters, word, word-over, run-word}
-use Rattle.search.proofs.Theory.{search-all, search-none, search-rises}
-use Rattle.search.proofs.Steps.{path-of}
-use Rattle.search.proofs.Joint.{bounded, state-is}
-use Rattle.search.proofs.Outcomes.{init, codes-few}
-use Rattle.lasso_search.specs.Codes.{Tabulated, freshAt, Marked, Leads}
+use Rattle.search.proofs.Marks.{met-none}
+use Rattle.search.proofs.Letters.{word}
+use Rattle.search.proofs.Theory.{search-none}
+use Rattle.search.proofs.Joint.{bounded}
+use Rattle.search.proofs.Outcomes.{init}
+use Rattle.lasso_search.specs.Codes.{Tabulated, freshAt, Marked}
 
 -- two automata with the same steps run alike
 run-same : {s m : ℕ} {f g : ℕ → ℕ → ℕ} → Closed s m g → ((q a : ℕ) → q < m → a < s → f q a ≡ g q a) → {q : ℕ} → q < m → (w : Word) → Over s w → run f q w ≡ run g q w

@@ -1,15 +1,15 @@
 -- The search of the leading states alone: the progress stands still. Assumes nothing.
-use mathlib.Core.Path.{_≡_, refl, ap, sym, subst, subst₂, _∙_}
+use mathlib.Core.Path.{_≡_, refl, ap, sym, subst₂, _∙_}
 use mathlib.Core.List.{List}
 use Prim.Native.Nat.{ℕ, zero, suc, _+_, _*_, _-_, _/_, _%_, _≤_, _<_}
 use native.Mathlib.Omega.{arith}
 use native.Mathlib.Decide.{ℕ-discrete}
 use lib.ListN.{length, getD, take, set, replicate, length-replicate, length-set}
 use lib.Seq.{getD-take, getD-set-same, getD-set-other}
-use borrow.Author.Tests.{eq-eqb, ne-eqb}
+use borrow.Author.Tests.{ne-eqb}
 use Rattle.fdfa.specs.Inclusion.{Counts, Reached}
 use Rattle.search.specs.Words.{Word, ε, _·_, run, Over, letters}
-use Rattle.search.specs.Queue.{placeAt, stateAt, met}
+use Rattle.search.specs.Queue.{placeAt, met}
 use Rattle.search.specs.Paths.{Path, at-root, at-step}
 use Rattle.search.specs.Search.{Space, reach, Bounded, Search, Ends, Aim, joint, Ready}
 use Rattle.search.proofs.Marks.{met-none, met-set, counts}

@@ -2,13 +2,13 @@
 use mathlib.Core.Path.{_≡_, refl, ap, sym, subst, _∙_}
 use mathlib.Core.List.{List, _++_}
 use mathlib.Core.Logic.{_⊎_, inl, inr}
-use Prim.Native.Nat.{ℕ, _+_, _*_, _-_, _≤_, _<_}
+use Prim.Native.Nat.{ℕ, _+_, _-_, _≤_, _<_}
 use native.Mathlib.Omega.{arith}
 use native.Mathlib.Decide.{decLt}
 use lib.ListN.{length, take, drop, length-append, length-drop}
 use lib.Seq.{length-take-le, take-all, take-at, drop-at}
-use Rattle.fdfa.specs.Family.{Fdfa, Complete}
-use Rattle.search.specs.Words.{Word, _⊏_, _⊑_, same, less, run, Over}
+use Rattle.fdfa.specs.Family.{Fdfa}
+use Rattle.search.specs.Words.{Word, _⊏_, _⊑_, same, less, run}
 use Rattle.search.specs.Queue.{stateAt}
 use Rattle.search.specs.Search.{Space, Ends, joint, Ready}
 use Rattle.search.proofs.Shortlex.{⊑-trans}

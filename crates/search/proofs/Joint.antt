@@ -1,17 +1,13 @@
 -- Two automata side by side by their tables, and the numbers by which a state is expanded. Assumes nothing.
-use mathlib.Core.Path.{_≡_, refl, ap, sym, _∙_}
-use mathlib.Core.Bool.{cond}
+use mathlib.Core.Path.{_≡_, ap, sym, _∙_}
 use mathlib.Core.List.{List}
 use Prim.Native.Nat.{ℕ, zero, suc, _+_, _*_, _-_, _/_, _%_, _≤_, _<_}
 use native.Mathlib.Omega.{arith}
-use native.Mathlib.Nat.{mod-lt, mul-le-mul, div-add-mod', div-eq-of-lt, mul-add, add-mul}
-use native.Mathlib.Decide.{ℕ-discrete}
+use native.Mathlib.Nat.{mod-lt, mul-le-mul, div-add-mod', div-eq-of-lt, mul-add}
 use lib.Arith.{digits-lt, digits-div}
 use lib.ListN.{length, getD}
-use borrow.Author.Tests.{eq-eqb, ne-eqb}
-use Rattle.fdfa.specs.Family.{Closed}
+use borrow.Author.Tests.{ne-eqb}
 use Rattle.fdfa.proofs.Product.{left-below}
-use Rattle.search.specs.Words.{Word, ε}
 use Rattle.search.specs.Queue.{entry, placeAt}
 use Rattle.search.specs.Search.{Space, reach, Bounded, Search, rowStep, Tables, Aim, joint}
 

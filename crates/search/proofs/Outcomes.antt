@@ -1,11 +1,11 @@
 -- What a search that is started knows, and what a code's expansion begins and ends with. Assumes nothing.
 use mathlib.Core.Path.{_≡_, refl, ap, sym, _∙_}
 use mathlib.Core.List.{List}
-use Prim.Native.Nat.{ℕ, _+_, _*_, _-_, _/_, _%_, _≤_, _<_}
+use Prim.Native.Nat.{ℕ, _+_, _-_, _/_, _≤_, _<_}
 use native.Mathlib.Omega.{arith}
 use native.Mathlib.Numerals.{lt-add-one}
 use lib.ListN.{length, getD, set}
-use Rattle.search.specs.Words.{Word, ε, _·_, short, front}
+use Rattle.search.specs.Words.{ε, short, front}
 use Rattle.search.specs.Queue.{entry, met}
 use Rattle.search.specs.Search.{Space, reach, Bounded, Search, Ends}
 use Rattle.search.proofs.Shortlex.{⊏-trans}

@@ -18,7 +18,7 @@ use Rattle.search.specs.Queue.{entry, met}
 use Rattle.search.specs.Paths.{Path, at-root, at-step}
 use Rattle.search.specs.Search.{Space, reach, Bounded, Hit, Entry, Search, Ends}
 use Rattle.search.proofs.Shortlex.{⊏-trans, ⊑-of-eq}
-use Rattle.search.proofs.Marks.{met-set, met-most, met-below}
+use Rattle.search.proofs.Marks.{met-set, met-most}
 use Rattle.search.proofs.Theory.{next-first}
 
 abbrev pick : Bool → Word → Word → Word

@@ -1,11 +1,11 @@
 -- The theory of a breadth-first search: each word leads to a state that was found by no later word, or some letter that was not yet
 -- tried leads to a word no later. Assumes nothing.
-use mathlib.Core.Path.{_≡_, ap, sym, subst, _∙_}
+use mathlib.Core.Path.{_≡_, ap, subst, _∙_}
 use Prim.Native.Nat.{ℕ, _+_, _*_, _≤_, _<_}
 use mathlib.Core.List.{List}
 use native.Mathlib.Omega.{arith}
 use native.Mathlib.Decide.{decLt}
-use Rattle.search.specs.Words.{Word, ε, _·_, _⊏_, _⊑_, front, last, same, less, Over}
+use Rattle.search.specs.Words.{Word, ε, _·_, _⊏_, _⊑_, front, last, less, Over}
 use Rattle.search.specs.Search.{Space, reach, Bounded, Hit, Search}
 use Rattle.search.proofs.Shortlex.{⊑⊏, ⊑-trans, grows, ⊑-snoc, ⊑-of-eq}
 

@@ -1,5 +1,5 @@
 -- `lasso_search::first_lasso` meets its contract. Assumes nothing.
-use mathlib.Core.Path.{_≡_, ap, sym, subst, _∙_}
+use mathlib.Core.Path.{_≡_, ap, subst, _∙_}
 use mathlib.Core.List.{List}
 use Prim.Native.Nat.{ℕ, _-_, _≤_}
 use native.Mathlib.Omega.{arith}
@@ -8,7 +8,6 @@ use denote.Ref.{now}
 use lib.ListN.{length, replicate}
 use Rattle.fdfa.specs.Family.{Fdfa}
 use Rattle.pairing.specs.declared.PairSizes.{PairSizes}
-use Rattle.pairing.specs.Pairs.{sizesOf}
 use Rattle.pairing.proofs.Within.{few-pairs}
 use Rattle.lasso_search.specs.declared.Codes.the-variants.{Absent, Found}
 use Rattle.lasso_search.specs.Lassos.{difference, Lent}

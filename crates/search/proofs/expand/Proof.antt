@@ -7,8 +7,8 @@ use native.Mathlib.Nat.{mul-le-mul, mod-lt, div-add-mod'}
 use borrow.Author.Needs.{needs}
 use denote.Ref.{now}
 use lib.ListN.{length, getD, set, length-set}
-use Rattle.search.specs.Queue.{entry, placeAt}
-use Rattle.search.specs.Search.{Space, reach, Search, Ends, Aim, joint, rowStep, Ready, Searchable}
+use Rattle.search.specs.Queue.{entry}
+use Rattle.search.specs.Search.{Space, reach, Ends, Aim, joint, rowStep, Ready, Searchable}
 use Rattle.search.proofs.Joint as joint
 use Rattle.search.proofs.Joint.{Stands, stands}
 use Rattle.search.proofs.Outcomes.{Expanding, codes-few, expanding-in, expanding-room, expanding-on, expanding-ends, expanding-done}

@@ -1,12 +1,11 @@
 -- `search::explore` meets its contract: code after code, whatever is looked for. Assumes nothing.
 use mathlib.Core.Path.{_≡_, refl, subst, _∙_}
 use mathlib.Core.List.{List}
-use Prim.Native.Nat.{ℕ, _+_, _-_, _≤_, _<_}
+use Prim.Native.Nat.{ℕ, _-_, _≤_}
 use native.Mathlib.Omega.{arith}
 use borrow.Author.Needs.{needs}
 use denote.Ref.{now}
 use lib.ListN.{length}
-use Rattle.search.specs.declared.Expansion.{Expansion}
 use Rattle.search.specs.Search.{Search, Aim, joint, Ready, Expanded}
 use Rattle.search.proofs.Outcomes.{codes-few}
 use Rattle.search.proofs.explore.Statement.{statement}

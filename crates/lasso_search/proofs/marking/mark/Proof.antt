@@ -1,12 +1,11 @@
 -- `lasso_search::marking::mark` meets its contract: row after row. Assumes nothing.
-use mathlib.Core.Path.{_≡_, refl, ap, sym, subst, _∙_}
-use mathlib.Core.List.{List}
-use Prim.Native.Nat.{ℕ, _+_, _*_, _-_, _≤_, _<_}
+use mathlib.Core.Path.{_≡_, sym, subst, _∙_}
+use Prim.Native.Nat.{ℕ, _+_, _*_, _-_}
 use native.Mathlib.Omega.{arith}
 use native.Mathlib.Nat.{add-mul, one-mul}
 use borrow.Author.Needs.{needs}
 use denote.Ref.{now}
-use lib.ListN.{length, set, length-set}
+use lib.ListN.{set}
 use Rattle.lasso_search.specs.Codes.{endsAt}
 use Rattle.lasso_search.proofs.Marks.{Marking, marking-none, marking-in, marking-next, marking-more, marking-all}
 use Rattle.lasso_search.proofs.marking.mark.Statement.{statement}

@@ -1,17 +1,16 @@
 -- `lasso_search::searching::can_end` meets its contract. Assumes nothing.
-use mathlib.Core.Path.{_≡_, refl, sym, subst, _∙_}
-use mathlib.Core.Bool.{Bool, true, false, true≢false}
+use mathlib.Core.Path.{subst}
+use mathlib.Core.Bool.{Bool, true≢false}
 use mathlib.Core.List.{List}
-use Prim.Native.Nat.{ℕ, _+_, _*_, _≤_, _<_}
+use Prim.Native.Nat.{ℕ, _+_, _≤_, _<_}
 use native.Mathlib.Omega.{arith}
 use borrow.Author.Needs.{needs}
 use denote.Ref.{now}
 use lib.ListN.{length, replicate}
-use Rattle.search.specs.Words.{Word, ε, run, Over}
 use Rattle.search.specs.Search.{Explored, joint, Ready}
 use Rattle.lasso_search.specs.Codes.{Tabulated, Marked}
 use Rattle.lasso_search.proofs.Joined.{aimAt, begin, no-ending}
-use Rattle.lasso_search.proofs.Leading.{still, stands-still, run-still}
+use Rattle.lasso_search.proofs.Leading.{stands-still, run-still}
 use Rattle.lasso_search.proofs.searching.can_end.Statement.{statement}
 use Rattle.lasso_search.proofs.searching.can_end.Tie as tie
 

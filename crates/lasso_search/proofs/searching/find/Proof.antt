@@ -10,16 +10,16 @@ use lib.ListN.{length, take, drop, length-replicate}
 use lib.Seq.{length-take-le, take-append-le, take-at, length-front}
 use Rattle.fdfa.specs.Family.{Fdfa}
 use Rattle.pairing.specs.declared.Beside.{Beside}
-use Rattle.pairing.specs.Pairs.{Alike, leadsOf, nextPair, Steps}
+use Rattle.pairing.specs.Pairs.{Alike, nextPair, Steps}
 use Rattle.pairing.proofs.Within.{lead-steps}
 use Rattle.search.specs.declared.Expansion.{Expansion}
 use Rattle.search.specs.Queue.{stateAt}
 use Rattle.search.specs.Search.{Aim, joint, Ready, Search, Ends, Expanded}
 use Rattle.search.proofs.Outcomes.{codes-few}
 use Rattle.lasso_search.specs.declared.Codes.{Codes}
-use Rattle.lasso_search.specs.declared.Codes.the-variants.{Absent, Found}
+use Rattle.lasso_search.specs.declared.Codes.the-variants.{Absent}
 use Rattle.lasso_search.specs.Lassos.{difference}
-use Rattle.lasso_search.specs.Codes.{Tabulated, Marked, Leads, Room, Located}
+use Rattle.lasso_search.specs.Codes.{Tabulated, Leads, Room, Located}
 use Rattle.lasso_search.proofs.Joined.{aimAt, begin}
 use Rattle.lasso_search.proofs.Difference.{complete, lead-step, tabulated}
 use Rattle.lasso_search.proofs.Lassos.{none-accepted, first-accepted}
@@ -544,10 +544,12 @@ returns-2 c =
     let z : zs x ≡ drop (front (o y)) (work₂ x) = sym (cells-back x) ∙ tail-is (front (o y)) (work₂ x) fits in
     let E : Ends (joint (leads x) (rows x) (P T .states) (P T .letters) (q (p y)) (aim x (P T .states))) (drop (P T .states - 1) (work₂ x)) (c .before .step .given .0 .0)
     = subst (λ (j : ℕ). Ends (joint (leads x) (rows x) (P T .states) (P T .letters) (q (p y)) (aim x (P T .states))) (drop j (work₂ x)) (c .before .step .given .0 .0)) f
-      (subst (λ (w : List ℕ). Ends (joint (leads x) (rows x) (P T .states) (P T .letters) (q (p y)) (aim x (P T .states))) w (c .before .step .given .0 .0)) z
-      (subst₂ (λ (j s : ℕ). Ends (joint (leads x) (rows x) j s (q (p y)) (aim x j)) (zs x) (c .before .step .given .0 .0)) (states T) (letters T) (expanded x (c .before .step .given .1)))) in
-    (round₂ x .leads .counted, first-accepted (P T) (complete (alike T)) (located (P T) (leads-are (o y)) (rows-are (p y) (pos (y .before))) (q-in (m (p y))) (pos (y .before))
-    (subst (λ (j : ℕ). Round (P T) (take j (work₂ x)) (r (o y) .reach .result) (o y .search .i)) f (round₂ x)) (here (m (p y))) (subst (λ (j : ℕ). q (p y) ≡ stateAt 0 (take j (work₂ x)) (o y .search .i)) f (state₂ x)) (omega (arith, fits, f)) E))
+    (subst (λ (w : List ℕ). Ends (joint (leads x) (rows x) (P T .states) (P T .letters) (q (p y)) (aim x (P T .states))) w (c .before .step .given .0 .0)) z
+    (subst₂ (λ (j s : ℕ). Ends (joint (leads x) (rows x) j s (q (p y)) (aim x j)) (zs x) (c .before .step .given .0 .0)) (states T) (letters T) (expanded x (c .before .step .given .1)))) in (
+      round₂ x .leads .counted,
+      first-accepted (P T) (complete (alike T)) (located (P T) (leads-are (o y)) (rows-are (p y) (pos (y .before))) (q-in (m (p y))) (pos (y .before))
+          (subst (λ (j : ℕ). Round (P T) (take j (work₂ x)) (r (o y) .reach .result) (o y .search .i)) f (round₂ x)) (here (m (p y))) (subst (λ (j : ℕ). q (p y) ≡ stateAt 0 (take j (work₂ x)) (o y .search .i)) f (state₂ x)) (omega (arith, fits, f)) E),
+    )
 
 pub find-spec : {M : Type 1} → statement M
 find-spec =

@@ -1,7 +1,7 @@
 -- `lasso_search::searching::locate` meets its contract. Assumes nothing.
 use native.Mathlib.Omega.{arith}
 use native.Mathlib.Nat.{mul-le-mul}
-use Prim.Native.Nat.{ℕ, _*_, _≤_}
+use Prim.Native.Nat.{_≤_}
 use borrow.Author.Needs.{needs}
 use Rattle.pairing.proofs.Within.{few-pairs, few-widest}
 use Rattle.lasso_search.proofs.Difference.{room-of}

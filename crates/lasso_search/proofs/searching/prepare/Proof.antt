@@ -1,22 +1,19 @@
 -- `lasso_search::searching::prepare` meets its contract. Assumes nothing.
 use mathlib.Core.Path.{_≡_, refl, ap, sym, subst, _∙_}
-use mathlib.Core.Bool.{Bool, true, false}
 use mathlib.Core.List.{List, _++_}
 use Prim.Native.Nat.{ℕ, _+_, _*_, _/_, _%_, _≤_, _<_}
 use native.Mathlib.Omega.{arith}
 use native.Mathlib.Nat.{mul-one, mul-le-mul-left}
-use borrow.Author.Needs.{needs}
 use borrow.Author.Tests.{not-true}
 use denote.Ref.{now}
-use lib.ListN.{length, take, drop, length-append, length-drop}
+use lib.ListN.{length, take, drop, length-append}
 use lib.Seq.{length-take-le, take-at, length-front}
-use Rattle.slices.proofs.Filling.{length-written}
 use Rattle.packed.specs.Layout.{stateCount}
 use Rattle.pairing.specs.declared.Beside.{Beside}
 use Rattle.pairing.specs.Pairs.{Alike}
 use Rattle.search.specs.Words.{Over}
 use Rattle.lasso_search.specs.Lassos.{difference}
-use Rattle.lasso_search.specs.Codes.{Tabulated, Marked, endsAt, Room}
+use Rattle.lasso_search.specs.Codes.{Tabulated, Marked, Room}
 use Rattle.lasso_search.proofs.Difference.{Progress, wide, pair-in, progress-at, tabulated}
 use Rattle.lasso_search.proofs.searching.prepare.Statement.{statement}
 use Rattle.lasso_search.proofs.searching.prepare.Tie as tie
