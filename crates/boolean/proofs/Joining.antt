@@ -26,10 +26,10 @@ module _ {b c : List ℕ} (P : Pair b c) where
   pub some : 0 < stateCount c
   some = P .alike .second .header .some-states
 
-  pub left : {x : ℕ} → x < stateCount b * stateCount c → x / stateCount c < stateCount b
+  left : {x : ℕ} → x < stateCount b * stateCount c → x / stateCount c < stateCount b
   left h = left-below some h
 
-  pub right : (x : ℕ) → x % stateCount c < stateCount c
+  right : (x : ℕ) → x % stateCount c < stateCount c
   right x = mod-lt x some
 
   pub size-few : (x : ℕ) → x < stateCount b * stateCount c → pairSize b c x ≤ 32

@@ -3,7 +3,7 @@ use mathlib.Core.Bool.{Bool, not, _&&_, _||_}
 use Prim.Native.Nat.{ℕ, _+_, _*_, _/_, _%_}
 use Rattle.fdfa.specs.Family.{Fdfa}
 
--- The same family, every mark turned.
+-- The same family, every mark flipped (01: turned).
 abbrev pub complement : Fdfa → Fdfa
 complement F = record {
   letters = F .letters;
