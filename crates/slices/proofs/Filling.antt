@@ -1,10 +1,10 @@
 -- Filling a slice cell by cell, and part by part. Assumes nothing.
 use mathlib.Core.Path.{_≡_, refl, ap, ap₂, sym, subst, _∙_}
 use mathlib.Core.List.{List, [], _∷_, _++_, append-nil, append-assoc}
-use Prim.Native.Nat.{ℕ, suc, _+_, _-_, _≤_, _<_}
+use Prim.Native.Nat.{ℕ, zero, suc, _+_, _-_, _≤_, _<_}
 use native.Mathlib.Omega.{arith}
 use native.Mathlib.Numerals.{add-one}
-use lib.ListN.{length, getD, take, drop, set, length-set, length-append, length-take, length-drop, drop-of-length-le}
+use lib.ListN.{length, getD, take, drop, set, length-set, length-append, length-take, length-drop, drop-of-length-le, replicate}
 use lib.Seq.{length-take-le, take-all, take-append-seam, drop-append-seam, drop-append-add, drop-drop, drop-cons, set-append-seam}
 use Rattle.slices.specs.declared.Refusal.{Refusal}
 use Rattle.slices.specs.declared.Written.{Written}
@@ -200,3 +200,20 @@ fill-given new {old} e l d = record {
 
 pub fills-as : {f g : Fault} {new old out : List ℕ} {r : Written} → f ≡ g → Fills f new old out r → Fills g new old out r
 fills-as {new = new} {old = old} {out = out} {r = r} e h = subst (λ (x : Fault). Fills x new old out r) e h
+
+-- a slice filled whole with one value
+same-value : (m v : ℕ) → tab m (λ i. v) ≡ replicate m v
+unfolding tab
+same-value zero v = refl
+same-value (suc m) v = ap (λ (l : List ℕ). l ++ (v ∷ [])) (same-value m v) ∙ snoc m
+  where
+    snoc : (k : ℕ) → replicate k v ++ (v ∷ []) ≡ v ∷ replicate k v
+    snoc zero = refl
+    snoc (suc k) = ap (λ (l : List ℕ). v ∷ l) (snoc k)
+
+pub filling-value : {v : ℕ} {old out : List ℕ} {i : ℕ} → Filling (length old) (λ k. v) old out i → length old ≤ i → out ≡ replicate (length old) v
+unfolding written
+filling-value {v} {old} s h =
+    filling-all s h
+    ∙ (ap (λ (l : List ℕ). tab (length old) (λ k. v) ++ l) (drop-of-length-le old {i = length (tab (length old) (λ k. v))} (omega (arith, length-tab (length old) (λ k. v))))
+    ∙ (append-nil (tab (length old) (λ k. v)) ∙ same-value (length old) v))
