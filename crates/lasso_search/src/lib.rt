@@ -51,7 +51,7 @@ pub fn first_lasso(
     ensures clears { λ _. ⌜ now (work .exit) ≡ replicate (length (now (work .entry))) 0 ⌝ }
 {
     let n = sizes.pairs;
-    let found = locate(first, second, n, sizes.widest, work);
+    let found = locate(first, second, n, work);
     match found {
         Codes::Absent(reached) => {
             search::clear(work);

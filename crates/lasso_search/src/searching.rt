@@ -150,14 +150,13 @@ fn find_many(first: &[u8], second: &[u8], t: Beside, n: usize, work: &mut [u64])
     find(first, second, t, n, &mut marks, work)
 }
 
-// The first lasso by its codes: of n pairs of leading states, and at most `widest` pairs of progress states with each.
-pub fn locate(first: &[u8], second: &[u8], n: usize, widest: usize, work: &mut [u64]) -> Codes
-    requires { ⌜ Alike (now first) (now second) × (n ≡ sizesOf (now first) (now second) .pairs) × (widest ≡ sizesOf (now first) (now second) .widest) ⌝ }
-    requires { ⌜ length (now work) ≡ n + n * widest ⌝ }
+// The first lasso by its codes, of n pairs of leading states. A player lends 8,192 cells, and needs no room for more marks.
+pub fn locate(first: &[u8], second: &[u8], n: usize, work: &mut [u64]) -> Codes
+    requires { ⌜ Alike (now first) (now second) × (n ≡ sizesOf (now first) (now second) .pairs) × (length (now work) ≡ n + n * sizesOf (now first) (now second) .widest) ⌝ }
     ensures { λ r. ⌜ Located (difference (now (first .entry)) (now (second .entry))) (now (work .exit)) r ⌝ }
 {
     let t = pairing::leads(first, second);
-    if n * widest <= 8192 {
+    if work.len() <= 8192 {
         find_few(first, second, t, n, work)
     } else {
         find_many(first, second, t, n, work)

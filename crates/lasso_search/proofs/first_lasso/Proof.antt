@@ -1,7 +1,7 @@
 -- `lasso_search::first_lasso` meets its contract. Assumes nothing.
 use mathlib.Core.Path.{_≡_, ap, subst, _∙_}
 use mathlib.Core.List.{List}
-use Prim.Native.Nat.{ℕ, _-_, _≤_}
+use Prim.Native.Nat.{ℕ, _+_, _-_, _*_, _≤_}
 use native.Mathlib.Omega.{arith}
 use borrow.Author.Needs.{needs}
 use denote.Ref.{now}
@@ -29,13 +29,13 @@ module _ (c : tie.After-locate) where
   P = difference (now (s .args .first)) (now (s .args .second))
 
   abbrev cells : List ℕ
-  cells = c .locate .last .1 .1 .1 .1 .0
+  cells = c .locate .last .1 .1 .1 .0
 
   abbrev lent : Lent
   lent = record { opening = now (s .args .opening); period = now (s .args .period) }
 
   same : length cells ≡ length (now (s .args .work))
-  same = c .locate .kept .1 .1 .1 .1 .0
+  same = c .locate .kept .1 .1 .1 .0
 
   pairs : s .args .sizes .pairs ≡ P .states
   pairs = ap (λ (z : PairSizes). z .pairs) (s .pre .1)
@@ -53,7 +53,7 @@ locate-requires : tie.Need-locate-requires
 locate-requires c κs =
     let s = c .before .before .before .before .before .before in
     let p = s .pre in
-    ((p .0, ap (λ (z : PairSizes). z .pairs) (p .1), ap (λ (z : PairSizes). z .widest) (p .1)), p .2)
+    (p .0, ap (λ (z : PairSizes). z .pairs) (p .1), p .2 ∙ (λ i. s .args .sizes .pairs + s .args .sizes .pairs * p .1 i .widest))
 
 enum-known-found : tie.Need-enum-known-found
 enum-known-found c = search needs

@@ -1,5 +1,6 @@
 -- `lasso_search::searching::locate` meets its contract. Assumes nothing.
 use native.Mathlib.Omega.{arith}
+use mathlib.Core.Path.{refl}
 use native.Mathlib.Nat.{mul-le-mul}
 use Prim.Native.Nat.{_≤_}
 use borrow.Author.Needs.{needs}
@@ -11,23 +12,20 @@ use Rattle.lasso_search.proofs.searching.locate.Tie as tie
 leads-requires : tie.Need-leads-requires
 leads-requires c κs = search needs
 
-mul-if1 : tie.Need-mul-if1
-mul-if1 c = search needs
-
 find-few-requires : tie.Need-find-few-requires
 find-few-requires c κs =
     let l = c .before .before in
     let s = l .before .before .before .before in
-    ((s .pre .0 .0, l .leads .ensures, s .pre .0 .1), room-of (s .pre .0 .0) (s .pre .0 .1) (s .pre .0 .2) (c .before .if1 .taken) (s .pre .1))
+    let p = s .pre in
+    ((p .0, l .leads .ensures, p .1), room-of (p .0) (p .1) refl (omega (arith, c .before .if1 .taken, p .2)) (p .2))
 
 find-many-requires : tie.Need-find-many-requires
 find-many-requires c κs =
     let l = c .before .before in
     let s = l .before .before .before .before in
-    let p = s .pre .0 in
+    let p = s .pre in
     let f : s .args .n ≤ 1024 = omega (arith, p .1, few-pairs (p .0)) in
-    let w : s .args .widest ≤ 1024 = omega (arith, p .2, few-widest (p .0)) in
-    ((p .0, l .leads .ensures, p .1), room-of (p .0) (p .1) (p .2) (mul-le-mul f w) (s .pre .1))
+    ((p .0, l .leads .ensures, p .1), room-of (p .0) (p .1) refl (mul-le-mul f (few-widest (p .0))) (p .2))
 
 same-length : tie.Need-same-length
 same-length c = search needs
@@ -46,7 +44,6 @@ locate-spec =
     tie.close
     (tie.spec
     leads-requires
-    mul-if1
     find-few-requires
     find-many-requires
     same-length
