@@ -44,7 +44,7 @@ uint32_t fdfa_verdict(const uint8_t *sheet, size_t sheet_len,
  * loop     room for its loop, likewise
  * answer   FDFA_COMPARE_BYTES or more, of which the first FDFA_COMPARE_BYTES are written
  *
- * The search has its 8,192 cells and two tables on the stack, 192 KiB. Returns 1, or 0 if answer is too short, when nothing is written.
+ * The call takes at most 256 KiB of stack: 8,192 cells, two tables and a byte for each cell. Returns 1, or 0 if answer is too short, when nothing is written.
  */
 uint32_t fdfa_compare(const uint8_t *first, size_t first_len,
                       const uint8_t *second, size_t second_len,

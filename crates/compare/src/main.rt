@@ -1,5 +1,5 @@
-// Compares the packed sheets `first.sheet` and `second.sheet` of the folder it is run in, and prints whether every show that the
-// first accepts is accepted by the second, or the first counter-show.
+// Compares the packed sheets `first.sheet` and `second.sheet` of the folder it is run in, and prints whether every show that
+// closes in both and is accepted by the first is accepted by the second, or the first counter-show.
 use console::Length;
 use inclusion::Comparison;
 use inclusion::Outcome;

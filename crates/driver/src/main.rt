@@ -16,7 +16,8 @@ mod calls; // calls.rt: the table of the calls
 mod input; // input.rt: standard input, line by line
 
 // On the stack, in bytes: the input 1,048,577 (the longest line and its line feed), the output 65,536, four slices of 300,000
-// bytes, one of 16,384 cells of 64 bits: 2,445,185 of 8,388,608. The comparison takes 131,072 more.
+// bytes, one of 16,384 cells of 64 bits: 2,445,185 of 8,388,608. The comparison takes up to
+// 1,179,648 more, its tables and marks.
 fn main() {
     let mut lines = [0u8; 1048577];
     let mut out = [0u8; 65536];

@@ -26,7 +26,7 @@ pub fn first_outside(bytes: &[u8], low: usize, limit: usize, at: usize, count: u
     count
 }
 
-// The largest byte, 0 where there is none.
+// A byte that none exceeds.
 fn top(word: &[u8]) -> u8
     ensures { λ r. ⌜ ((i : ℕ) → i < length (now (word .entry)) → getD (now (word .entry)) i 0 ≤ r) ⌝ }
 {
