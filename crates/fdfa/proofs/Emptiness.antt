@@ -10,7 +10,7 @@ use lib.Arith.{digits-lt}
 use lib.ListN.{length}
 use lib.Dec.{eqb}
 use borrow.Author.Tests.{eq-eqb, eqb-true}
-use Rattle.fdfa.specs.Words.{Over, turns, Shortlex, Before, by-prefix, by-period}
+use Rattle.fdfa.specs.Words.{Over, power, Shortlex, Before, by-prefix, by-period}
 use Rattle.fdfa.specs.Family.{Fdfa, Complete, walk, Lasso}
 use Rattle.fdfa.specs.Normalization.{preperiod, periodCount, Normalized}
 use Rattle.fdfa.specs.Acceptance.{accepts}
@@ -212,7 +212,7 @@ module _ (F : Fdfa) (complete : Complete F) where
   emptiness-bounds = search-bounds F complete (widest F) (largest-le (F .states) (F .size)) test test-sound test-passes
 
   -- every accepted lasso gives an accepted one that is normalized
-  pub accepted-normalized : (u v : List ℕ) → Lasso (F .letters) u v → accepts F u v ≡ true → Accepted F (u ++ turns v (preperiod F u v)) (turns v (periodCount F u v))
+  pub accepted-normalized : (u v : List ℕ) → Lasso (F .letters) u v → accepts F u v ≡ true → Accepted F (u ++ power v (preperiod F u v)) (power v (periodCount F u v))
   accepted-normalized u v l e =
       let n = normalization F complete u v l in
       record { lasso = n .lasso; closes = n .closes; accepted = n .agrees ∙ e }

@@ -6,7 +6,7 @@ use mathlib.Core.List.{List, _++_}
 use Prim.Native.Nat.{ℕ, _*_, _/_, _%_, _≤_, _<_}
 use native.Mathlib.Nat.{mul-le-mul, mod-lt}
 use lib.ListN.{length}
-use Rattle.fdfa.specs.Words.{turns}
+use Rattle.fdfa.specs.Words.{power}
 use Rattle.fdfa.specs.Family.{Fdfa, Complete, Lasso}
 use Rattle.fdfa.specs.Normalization.{preperiod, periodCount, Normalized}
 use Rattle.fdfa.specs.Acceptance.{accepts}
@@ -112,7 +112,7 @@ module _ (F G : Fdfa) (alike : F .letters ≡ G .letters) (CF : Complete F) (CG 
   module _ (TF : TurnProof F) (TG : TurnProof G) where
     -- a lasso that the first accepts and the second rejects gives a counterexample
     pub turned-counterexample : (u v : List ℕ) → Lasso (F .letters) u v → accepts F u v ≡ true → accepts G u v ≡ false
-        → Counterexample F G (u ++ turns v (preperiod P u v)) (turns v (periodCount P u v))
+        → Counterexample F G (u ++ power v (preperiod P u v)) (power v (periodCount P u v))
     turned-counterexample u v l a r = record {
       lasso = n .lasso;
       first-closes = c .0;
@@ -121,10 +121,10 @@ module _ (F G : Fdfa) (alike : F .letters ≡ G .letters) (CF : Complete F) (CG 
       rejected = TG u v (rw (← alike) l) (preperiod P u v) (periodCount P u v) some ∙ r;
     }
       where
-        n : Normalization P u v (u ++ turns v (preperiod P u v)) (turns v (periodCount P u v))
+        n : Normalization P u v (u ++ power v (preperiod P u v)) (power v (periodCount P u v))
         n = normalization P CP u v l
 
-        c : Normalized F (u ++ turns v (preperiod P u v)) (turns v (periodCount P u v)) × Normalized G (u ++ turns v (preperiod P u v)) (turns v (periodCount P u v))
+        c : Normalized F (u ++ power v (preperiod P u v)) (power v (periodCount P u v)) × Normalized G (u ++ power v (preperiod P u v)) (power v (periodCount P u v))
         c = product-parts butNot F G alike CF CG _ _ (n .lasso) (n .closes)
 
         some : 0 < periodCount P u v

@@ -3,34 +3,34 @@ use mathlib.Core.Path.{_≡_, ap, sym, subst, _∙_}
 use mathlib.Core.List.{List, _++_, append-nil}
 use Prim.Native.Nat.{ℕ, _+_, _≤_, _<_}
 use native.Mathlib.Omega.{arith}
-use Rattle.fdfa.specs.Words.{turns}
+use Rattle.fdfa.specs.Words.{power}
 use Rattle.fdfa.specs.Family.{Fdfa, Complete, walk, Lasso}
 use Rattle.fdfa.specs.Normalization.{Smallest, after, preperiod, periodCount, Normalized}
 use Rattle.fdfa.specs.Acceptance.{loopState, endState, accepts}
-use Rattle.fdfa.proofs.Words.{over-append, over-turns, turns-one, turns-on, lasso-turned, walk-append, walk-closed}
+use Rattle.fdfa.proofs.Words.{over-append, over-power, power-one, power-on, lasso-power, walk-append, walk-closed}
 use Rattle.fdfa.proofs.Returns.{Follows, smallest, few}
 
 -- u and a turns, then k more
-pub after-add : (F : Fdfa) (u v : List ℕ) (a k : ℕ) → after F u v (a + k) ≡ walk (F .step) (after F u v a) (turns v k)
+pub after-add : (F : Fdfa) (u v : List ℕ) (a k : ℕ) → after F u v (a + k) ≡ walk (F .step) (after F u v a) (power v k)
 after-add F u v a k =
-    ap (walk (F .step) 0) (sym (turns-on u v a k)) ∙ walk-append (F .step) 0 (u ++ turns v a) (turns v k)
+    ap (walk (F .step) 0) (sym (power-on u v a k)) ∙ walk-append (F .step) 0 (u ++ power v a) (power v k)
 
 pub after-next : (F : Fdfa) (u v : List ℕ) (t : ℕ) {q : ℕ} → q ≡ after F u v t → walk (F .step) q v ≡ after F u v (t + 1)
-after-next F u v t e = ap (λ (q : ℕ). walk (F .step) q v) e ∙ sym (after-add F u v t 1 ∙ ap (walk (F .step) (after F u v t)) (turns-one v))
+after-next F u v t e = ap (λ (q : ℕ). walk (F .step) q v) e ∙ sym (after-add F u v t 1 ∙ ap (walk (F .step) (after F u v t)) (power-one v))
 
 pub after-none : (F : Fdfa) (u v : List ℕ) → after F u v 0 ≡ walk (F .step) 0 u
 after-none F u v = ap (walk (F .step) 0) (append-nil u)
 
 pub after-one : (F : Fdfa) (u v : List ℕ) → after F u v 1 ≡ walk (F .step) (walk (F .step) 0 u) v
-after-one F u v = ap (λ (w : List ℕ). walk (F .step) 0 (u ++ w)) (turns-one v) ∙ walk-append (F .step) 0 u v
+after-one F u v = ap (λ (w : List ℕ). walk (F .step) 0 (u ++ w)) (power-one v) ∙ walk-append (F .step) 0 u v
 
 module _ (F : Fdfa) (complete : Complete F) (u v : List ℕ) (lasso : Lasso (F .letters) u v) where
   pub follows : Follows (after F u v)
   follows a b k e =
-      after-add F u v a k ∙ (ap (λ (q : ℕ). walk (F .step) q (turns v k)) e ∙ sym (after-add F u v b k))
+      after-add F u v a k ∙ (ap (λ (q : ℕ). walk (F .step) q (power v k)) e ∙ sym (after-add F u v b k))
 
   pub inside : (t : ℕ) → after F u v t < F .states
-  inside t = walk-closed (complete .leads) (complete .start) (over-append (lasso .prefix) (over-turns t (lasso .period)))
+  inside t = walk-closed (complete .leads) (complete .start) (over-append (lasso .prefix) (over-power t (lasso .period)))
 
   -- i and j exist, and each is the smallest by itself
   pub normal : Smallest (after F u v) (preperiod F u v) (periodCount F u v)
@@ -53,8 +53,8 @@ module _ (F : Fdfa) (complete : Complete F) (u v : List ℕ) (lasso : Lasso (F .
       (subst (λ (i : ℕ). after F u v i ≡ after F u v (i + periodCount F u v)) (c .no-preperiod) (normal .same)) in
       sym (after-one F u v) ∙ (sym same ∙ after-none F u v)
 
-  lasso′ : Lasso (F .letters) (u ++ turns v (preperiod F u v)) (turns v (periodCount F u v))
-  lasso′ = lasso-turned lasso (preperiod F u v) (periodCount F u v) (normal .positive)
+  lasso′ : Lasso (F .letters) (u ++ power v (preperiod F u v)) (power v (periodCount F u v))
+  lasso′ = lasso-power lasso (preperiod F u v) (periodCount F u v) (normal .positive)
 
 -- the verdict of a normalized lasso: one turn in the progress automaton of the state after u
 pub normalized-loop : (F : Fdfa) (u v : List ℕ) → Normalized F u v → loopState F u v ≡ walk (F .step) 0 u
@@ -62,8 +62,8 @@ normalized-loop F u v c = ap (after F u v) (c .no-preperiod) ∙ after-none F u 
 
 pub normalized-end : (F : Fdfa) (u v : List ℕ) → Normalized F u v → endState F u v ≡ walk (F .progress (walk (F .step) 0 u)) 0 v
 normalized-end F u v c =
-    ap (λ (q : ℕ). walk (F .progress q) 0 (turns v (periodCount F u v))) (normalized-loop F u v c)
-    ∙ ap (walk (F .progress (walk (F .step) 0 u)) 0) (ap (turns v) (c .one-turn) ∙ turns-one v)
+    ap (λ (q : ℕ). walk (F .progress q) 0 (power v (periodCount F u v))) (normalized-loop F u v c)
+    ∙ ap (walk (F .progress (walk (F .step) 0 u)) 0) (ap (power v) (c .one-turn) ∙ power-one v)
 
 pub normalized-accepts : (F : Fdfa) (u v : List ℕ) → Normalized F u v
     → accepts F u v ≡ F .accepting (walk (F .step) 0 u) (walk (F .progress (walk (F .step) 0 u)) 0 v)
@@ -78,14 +78,14 @@ pub record Normalization (F : Fdfa) (u v x y : List ℕ) : Type 0 where
   pub agrees : accepts F x y ≡ accepts F u v
 
 pub normalization : (F : Fdfa) → Complete F → (u v : List ℕ) → Lasso (F .letters) u v
-    → Normalization F u v (u ++ turns v (preperiod F u v)) (turns v (periodCount F u v))
+    → Normalization F u v (u ++ power v (preperiod F u v)) (power v (periodCount F u v))
 normalization F complete u v lasso = record { lasso = l; closes = c; agrees = normalized-accepts F x y c }
   where
     x : List ℕ
-    x = u ++ turns v (preperiod F u v)
+    x = u ++ power v (preperiod F u v)
 
     y : List ℕ
-    y = turns v (periodCount F u v)
+    y = power v (periodCount F u v)
 
     l : Lasso (F .letters) x y
     l = lasso′ F complete u v lasso

@@ -7,7 +7,7 @@ use Prim.Native.Nat.{ℕ, _+_, _*_, _/_, _%_, _<_}
 use native.Mathlib.Omega.{arith}
 use native.Mathlib.Nat.{zero-mul, mul-pos, mod-lt, div-lt-iff-lt-mul}
 use lib.Arith.{digits-lt, digits-div, digits-mod}
-use Rattle.fdfa.specs.Words.{Over, done, below, turns}
+use Rattle.fdfa.specs.Words.{Over, done, below, power}
 use Rattle.fdfa.specs.Family.{Fdfa, Closed, Complete, walk, Lasso}
 use Rattle.fdfa.specs.Normalization.{preperiod, periodCount, Normalized}
 use Rattle.fdfa.specs.Acceptance.{accepts}
@@ -141,10 +141,10 @@ module _ (op : Bool → Bool → Bool) (F G : Fdfa) (alike : F .letters ≡ G .l
       ∙ ap₂ op (tf u v lasso (preperiod P u v) (periodCount P u v) some) (tg u v (rw (← alike) lasso) (preperiod P u v) (periodCount P u v) some))
     where
       x : List ℕ
-      x = u ++ turns v (preperiod P u v)
+      x = u ++ power v (preperiod P u v)
 
       y : List ℕ
-      y = turns v (periodCount P u v)
+      y = power v (periodCount P u v)
 
       n : Normalization P u v x y
       n = normalization P product-complete u v lasso

@@ -7,7 +7,7 @@ use native.Mathlib.Omega.{arith}
 use native.Mathlib.Numerals.{add-one}
 use lib.ListN.{length, getD, take, drop, length-append}
 use lib.Seq.{take-suc, take-all}
-use Rattle.fdfa.specs.Words.{Over, done, below, turns}
+use Rattle.fdfa.specs.Words.{Over, done, below, power}
 use Rattle.fdfa.specs.Family.{Closed, walk, Lasso}
 
 pub over-append : {s : ℕ} {v w : List ℕ} → Over s v → Over s w → Over s (v ++ w)
@@ -22,31 +22,31 @@ pub over-right : {s : ℕ} (v w : List ℕ) → Over s (v ++ w) → Over s w
 over-right [] w p = p
 over-right (a ∷ v) w (below h p) = over-right v w p
 
-pub over-turns : {s : ℕ} {v : List ℕ} (i : ℕ) → Over s v → Over s (turns v i)
-over-turns zero p = done
-over-turns (suc i) p = over-append p (over-turns i p)
+pub over-power : {s : ℕ} {v : List ℕ} (i : ℕ) → Over s v → Over s (power v i)
+over-power zero p = done
+over-power (suc i) p = over-append p (over-power i p)
 
-pub turns-one : (v : List ℕ) → turns v 1 ≡ v
-turns-one v = append-nil v
+pub power-one : (v : List ℕ) → power v 1 ≡ v
+power-one v = append-nil v
 
-pub turns-add : (v : List ℕ) (a b : ℕ) → turns v (a + b) ≡ turns v a ++ turns v b
-turns-add v zero b = ap (turns v) (zero-add b)
-turns-add v (suc a) b = ap (turns v) (suc-add a b) ∙ (ap (λ (w : List ℕ). v ++ w) (turns-add v a b) ∙ sym (append-assoc v (turns v a) (turns v b)))
+pub power-add : (v : List ℕ) (a b : ℕ) → power v (a + b) ≡ power v a ++ power v b
+power-add v zero b = ap (power v) (zero-add b)
+power-add v (suc a) b = ap (power v) (suc-add a b) ∙ (ap (λ (w : List ℕ). v ++ w) (power-add v a b) ∙ sym (append-assoc v (power v a) (power v b)))
 
 -- b turns of a turns are a × b turns
-pub turns-turns : (v : List ℕ) (a b : ℕ) → turns (turns v a) b ≡ turns v (a * b)
-turns-turns v a zero = sym (ap (turns v) (mul-zero a))
-turns-turns v a (suc b) =
-    ap (λ (w : List ℕ). turns v a ++ w) (turns-turns v a b)
-    ∙ (sym (turns-add v a (a * b)) ∙ ap (turns v) (add-comm a (a * b) ∙ sym (mul-suc a b)))
+pub power-power : (v : List ℕ) (a b : ℕ) → power (power v a) b ≡ power v (a * b)
+power-power v a zero = sym (ap (power v) (mul-zero a))
+power-power v a (suc b) =
+    ap (λ (w : List ℕ). power v a ++ w) (power-power v a b)
+    ∙ (sym (power-add v a (a * b)) ∙ ap (power v) (add-comm a (a * b) ∙ sym (mul-suc a b)))
 
 -- u and a turns, then b turns more
-pub turns-on : (u v : List ℕ) (a b : ℕ) → (u ++ turns v a) ++ turns v b ≡ u ++ turns v (a + b)
-turns-on u v a b = append-assoc u (turns v a) (turns v b) ∙ ap (λ (w : List ℕ). u ++ w) (sym (turns-add v a b))
+pub power-on : (u v : List ℕ) (a b : ℕ) → (u ++ power v a) ++ power v b ≡ u ++ power v (a + b)
+power-on u v a b = append-assoc u (power v a) (power v b) ∙ ap (λ (w : List ℕ). u ++ w) (sym (power-add v a b))
 
-pub length-turns : (v : List ℕ) (i : ℕ) → length (turns v i) ≡ i * length v
-length-turns v zero = sym (zero-mul (length v))
-length-turns v (suc i) = length-append v (turns v i) ∙ omega (arith, length-turns v i, suc-mul i (length v))
+pub length-power : (v : List ℕ) (i : ℕ) → length (power v i) ≡ i * length v
+length-power v zero = sym (zero-mul (length v))
+length-power v (suc i) = length-append v (power v i) ∙ omega (arith, length-power v i, suc-mul i (length v))
 
 cons-not-nil : {a : ℕ} {w : List ℕ} → a ∷ w ≡ [] → ⊥
 cons-not-nil e = let z : _≡_ {A = ℕ} 1 0 = ap some e in omega arith
@@ -56,17 +56,17 @@ cons-not-nil e = let z : _≡_ {A = ℕ} 1 0 = ap some e in omega arith
     some (a ∷ w) = 1
 
 -- one turn or more of a word with letters has letters
-pub turns-loop : (v : List ℕ) → (v ≡ [] → ⊥) → (j : ℕ) → 0 < j → turns v j ≡ [] → ⊥
-turns-loop [] h j p e = h refl
-turns-loop (a ∷ v) h zero p e = omega arith
-turns-loop (a ∷ v) h (suc j) p e = cons-not-nil e
+pub power-loop : (v : List ℕ) → (v ≡ [] → ⊥) → (j : ℕ) → 0 < j → power v j ≡ [] → ⊥
+power-loop [] h j p e = h refl
+power-loop (a ∷ v) h zero p e = omega arith
+power-loop (a ∷ v) h (suc j) p e = cons-not-nil e
 
 -- the lasso with further turns
-pub lasso-turned : {s : ℕ} {u v : List ℕ} → Lasso s u v → (a b : ℕ) → 0 < b → Lasso s (u ++ turns v a) (turns v b)
-lasso-turned {s} {u} {v} l a b p = record {
-  prefix = over-append (l .prefix) (over-turns a (l .period));
-  period = over-turns b (l .period);
-  loops = turns-loop v (l .loops) b p;
+pub lasso-power : {s : ℕ} {u v : List ℕ} → Lasso s u v → (a b : ℕ) → 0 < b → Lasso s (u ++ power v a) (power v b)
+lasso-power {s} {u} {v} l a b p = record {
+  prefix = over-append (l .prefix) (over-power a (l .period));
+  period = over-power b (l .period);
+  loops = power-loop v (l .loops) b p;
 }
 
 pub walk-append : (f : ℕ → ℕ → ℕ) (q : ℕ) (v w : List ℕ) → walk f q (v ++ w) ≡ walk f (walk f q v) w
@@ -110,7 +110,7 @@ letters-over s [] h = done
 letters-over s (a ∷ w) h = below (h 0 (omega arith)) (letters-over s w (λ i l. h (suc i) (omega arith)))
 
 -- one turn more
-pub walk-turn : (f : ℕ → ℕ → ℕ) (q : ℕ) (v : List ℕ) (t : ℕ) → walk f (walk f q (turns v t)) v ≡ walk f q (turns v (t + 1))
+pub walk-turn : (f : ℕ → ℕ → ℕ) (q : ℕ) (v : List ℕ) (t : ℕ) → walk f (walk f q (power v t)) v ≡ walk f q (power v (t + 1))
 walk-turn f q v t =
-    sym (walk-append f q (turns v t) v)
-    ∙ ap (walk f q) (ap (λ (w : List ℕ). turns v t ++ w) (sym (turns-one v)) ∙ sym (turns-add v t 1))
+    sym (walk-append f q (power v t) v)
+    ∙ ap (walk f q) (ap (λ (w : List ℕ). power v t ++ w) (sym (power-one v)) ∙ sym (power-add v t 1))

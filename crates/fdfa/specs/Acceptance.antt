@@ -2,7 +2,7 @@
 use mathlib.Core.Bool.{Bool}
 use mathlib.Core.List.{List}
 use Prim.Native.Nat.{ℕ}
-use Rattle.fdfa.specs.Words.{turns}
+use Rattle.fdfa.specs.Words.{power}
 use Rattle.fdfa.specs.Family.{Fdfa, walk}
 use Rattle.fdfa.specs.Normalization.{after, preperiod, periodCount}
 
@@ -12,7 +12,7 @@ loopState F u v = after F u v (preperiod F u v)
 
 -- Where the progress automaton of q ends after j turns, from its start.
 abbrev pub endState : Fdfa → List ℕ → List ℕ → ℕ
-endState F u v = walk (F .progress (loopState F u v)) 0 (turns v (periodCount F u v))
+endState F u v = walk (F .progress (loopState F u v)) 0 (power v (periodCount F u v))
 
 -- The lasso is accepted when that state is accepting.
 abbrev pub accepts : Fdfa → List ℕ → List ℕ → Bool

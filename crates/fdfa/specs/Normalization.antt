@@ -5,7 +5,7 @@ use mathlib.Core.List.{List, _++_}
 use Prim.Native.Nat.{ℕ, suc, _+_, _≤_}
 use lib.Dec.{eqb, leb}
 use Rattle.slices.specs.Extremes.{least}
-use Rattle.fdfa.specs.Words.{turns}
+use Rattle.fdfa.specs.Words.{power}
 use Rattle.fdfa.specs.Family.{Fdfa, walk}
 
 -- Of a sequence g: the smallest j from 1 to n with g i = g (i + j), or n + 1 where there is none.
@@ -25,7 +25,7 @@ pub record Smallest (g : ℕ → ℕ) (i j : ℕ) : Type 0 where
 
 -- The leading state after u and i turns of v.
 abbrev pub after : Fdfa → List ℕ → List ℕ → ℕ → ℕ
-after F u v i = walk (F .step) 0 (u ++ turns v i)
+after F u v i = walk (F .step) 0 (u ++ power v i)
 
 -- The closing numbers: i and j are the smallest with the same leading state after u and i turns as after u and i + j.
 abbrev pub preperiod : Fdfa → List ℕ → List ℕ → ℕ

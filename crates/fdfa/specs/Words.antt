@@ -10,9 +10,9 @@ pub data Over (s : ℕ) : List ℕ → Type 0 where
   below : {a : ℕ} {w : List ℕ} → a < s → Over s w → Over s (a ∷ w)
 
 -- v repeated i times (01: i turns of v).
-abbrev pub turns : List ℕ → ℕ → List ℕ
-turns v zero = []
-turns v (suc i) = v ++ turns v i
+abbrev pub power : List ℕ → ℕ → List ℕ
+power v zero = []
+power v (suc i) = v ++ power v i
 
 -- Of two words of one length: the smaller letter where the two first differ.
 pub data Lex : List ℕ → List ℕ → Type 0 where

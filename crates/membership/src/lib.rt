@@ -33,7 +33,7 @@ pub enum Checked {
 }
 
 // The normalization of a lasso: i, j and q.
-struct Normalized {
+struct Normalization {
     i: usize,
     j: usize,
     state: usize,
@@ -79,7 +79,7 @@ fn normalize(
     states: usize,
     prefix: &[u8],
     period: &[u8],
-) -> Normalized
+) -> Normalization
     requires { ⌜ Valid (now sheet) × Lasso (letterCount (now sheet)) (now prefix) (now period) ⌝ }
     requires { ⌜ (at ≡ leadingAt (now sheet)) × (letters ≡ letterCount (now sheet)) × (states ≡ stateCount (now sheet)) ⌝ }
     ensures { λ r. ⌜ r ≡ normalizedOf (decode (now (sheet .entry))) (now (prefix .entry)) (now (period .entry)) ⌝ }
@@ -94,7 +94,7 @@ fn normalize(
         t += 1;
     }
     let i = seen[q] - 1;
-    Normalized {
+    Normalization {
         i,
         j: t - i,
         state: q,

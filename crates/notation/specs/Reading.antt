@@ -80,8 +80,8 @@ abbrev pub progressRow : ℕ → ℕ → ℕ → ℕ → Row
 progressRow s q k p = record { first = due q; second = due p; third = below 2 6; rest = below k 5; count = s + 3 }
 
 -- The i-th of rows that are counted in their first column (turn 0) or in their second.
-abbrev pub turnedOf : Row → ℕ → ℕ → Row
-turnedOf r turn i =
+abbrev pub numberedOf : Row → ℕ → ℕ → Row
+numberedOf r turn i =
     cond (eqb turn 0)
     (record { first = due i; second = r .second; third = r .third; rest = r .rest; count = r .count })
     (record { first = r .first; second = due i; third = r .third; rest = r .rest; count = r .count })

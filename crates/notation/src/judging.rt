@@ -11,7 +11,7 @@ use slices::refuse;
 ghost use mathlib.Core.Path.{_≡_};
 ghost use Prim.Native.Nat.{_≤_, _<_};
 ghost use lib.ListN.{length};
-ghost use Rattle.notation.specs.Reading.{_andThen_, each, byteAt, literalAt, cellAt, columnOf, rowAt, due, turnedOf, namesAt, stepSays};
+ghost use Rattle.notation.specs.Reading.{_andThen_, each, byteAt, literalAt, cellAt, columnOf, rowAt, due, numberedOf, namesAt, stepSays};
 
 // The byte that is due at a place.
 fn byte(text: &[u8], at: usize, c: u8) -> Step
@@ -116,10 +116,10 @@ fn due(i: usize) -> Column
     }
 }
 
-// The i-th of rows that are counted in column `turn`, 0 or 1.
-fn turned(r: Row, turn: usize, i: usize) -> Row
+// The i-th of rows that are numbered in column `turn`, 0 or 1.
+fn numbered(r: Row, turn: usize, i: usize) -> Row
     requires { ⌜ i < 1000 ⌝ }
-    ensures { λ x. ⌜ x ≡ turnedOf r turn i ⌝ }
+    ensures { λ x. ⌜ x ≡ numberedOf r turn i ⌝ }
 {
     let first = r.first;
     let second = r.second;
@@ -148,12 +148,12 @@ fn turned(r: Row, turn: usize, i: usize) -> Row
 // The rows of a block.
 pub fn read_rows(text: &[u8], at: usize, r: Row, turn: usize, count: usize) -> Step
     requires { ⌜ count < 1000 ⌝ }
-    ensures { λ x. ⌜ stepSays x ≡ each count (λ i. rowAt (now (text .entry)) (turnedOf r turn i)) 0 at ⌝ }
+    ensures { λ x. ⌜ stepSays x ≡ each count (λ i. rowAt (now (text .entry)) (numberedOf r turn i)) 0 at ⌝ }
 {
     let mut p = at;
     let mut i = 0;
     while i < count {
-        let step = read_row(text, p, turned(r, turn, i));
+        let step = read_row(text, p, numbered(r, turn, i));
         match step {
             Step::Refused(x) => {
                 return Step::Refused(x);

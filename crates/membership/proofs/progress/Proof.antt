@@ -6,9 +6,9 @@ use native.Mathlib.Omega.{arith}
 use denote.Ref.{now}
 use lib.Dec.{eqb}
 use lib.ListN.{length, getD}
-use Rattle.fdfa.specs.Words.{turns}
+use Rattle.fdfa.specs.Words.{power}
 use Rattle.fdfa.specs.Family.{walk}
-use Rattle.fdfa.proofs.Words.{over-turns, walk-closed, walk-turn}
+use Rattle.fdfa.proofs.Words.{over-power, walk-closed, walk-turn}
 use Rattle.packed.specs.Layout.{letterCount, sizeOf, progressAt, marksAt, decode}
 use Rattle.packed.proofs.Bounds.{Body}
 use Rattle.packed.specs.Columns.{columnStep, Walkable}
@@ -18,16 +18,16 @@ use Rattle.membership.proofs.progress.Statement.{statement}
 use Rattle.membership.proofs.progress.Tie as tie
 
 abbrev Inv-loop : tie.InvT-loop
-Inv-loop sheet letters q period count at k table end₀ t₀ end t = (t ≤ count) × (end ≡ walk (decode sheet .progress q) 0 (turns period t))
+Inv-loop sheet letters q period count at k table end₀ t₀ end t = (t ≤ count) × (end ≡ walk (decode sheet .progress q) 0 (power period t))
 
 abbrev μ-loop : tie.MeasureT-loop
 μ-loop sheet letters q period count at k table end₀ t₀ end t = count - t
 
-one-more : (f : ℕ → ℕ → ℕ) (v : List ℕ) (e t : ℕ) → e ≡ walk f 0 (turns v t) → walk f e v ≡ walk f 0 (turns v (t + 1))
+one-more : (f : ℕ → ℕ → ℕ) (v : List ℕ) (e t : ℕ) → e ≡ walk f 0 (power v t) → walk f e v ≡ walk f 0 (power v (t + 1))
 one-more f v e t d = ap (λ (q : ℕ). walk f q v) d ∙ walk-turn f 0 v t
 
-all-turns : (f : ℕ → ℕ → ℕ) (v : List ℕ) (t count : ℕ) → t ≤ count → count ≤ t → walk f 0 (turns v t) ≡ walk f 0 (turns v count)
-all-turns f v t count h l = let e : t ≡ count = omega arith in ap (λ (n : ℕ). walk f 0 (turns v n)) e
+all-powers : (f : ℕ → ℕ → ℕ) (v : List ℕ) (t count : ℕ) → t ≤ count → count ≤ t → walk f 0 (power v t) ≡ walk f 0 (power v count)
+all-powers f v t count h l = let e : t ≡ count = omega arith in ap (λ (n : ℕ). walk f 0 (power v n)) e
 
 abbrev start : tie.After-size Inv-loop μ-loop → tie.Start Inv-loop μ-loop
 start c = c .before .before .before .before
@@ -40,8 +40,8 @@ below : (c : tie.At-loop Inv-loop μ-loop) → let s = start (sized c) in c .loo
 below c =
     let s = start (sized c) in
     let p = s .pre .0 in
-    let l : walk (decode (now (s .args .sheet)) .progress (s .args .q)) 0 (turns (now (s .args .period)) (c .loop .t)) < sizeOf (now (s .args .sheet)) (s .args .q) =
-    walk-closed (p .0 .progresses (s .args .q) (p .2)) (p .0 .header .some-size (s .args .q) (p .2)) (over-turns (c .loop .t) (p .1)) in
+    let l : walk (decode (now (s .args .sheet)) .progress (s .args .q)) 0 (power (now (s .args .period)) (c .loop .t)) < sizeOf (now (s .args .sheet)) (s .args .q) =
+    walk-closed (p .0 .progresses (s .args .q) (p .2)) (p .0 .header .some-size (s .args .q) (p .2)) (over-power (c .loop .t) (p .1)) in
     omega (arith, c .loop .inv .1)
 
 -- where its marks begin
@@ -121,7 +121,7 @@ returns c =
     let i = c .before .before in
     let s = start (sized i) .args in
     let F = decode (now (s .sheet)) in
-    let e = i .loop .inv .1 ∙ all-turns (F .progress (s .q)) (now (s .period)) (i .loop .t) (s .count) (i .loop .inv .0) (c .before .loop-test .left) in
+    let e = i .loop .inv .1 ∙ all-powers (F .progress (s .q)) (now (s .period)) (i .loop .t) (s .count) (i .loop .inv .0) (c .before .loop-test .left) in
     let m = c .is-marked .ensures ∙ ap (λ (m : ℕ). eqb (getD (now (s .sheet)) (m + i .loop .end) 0) 1) (marks (sized i)) in
     λ k. record { end = e k; accepted = (m ∙ ap (F .accepting (s .q)) e) k }
 

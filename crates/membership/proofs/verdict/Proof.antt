@@ -22,7 +22,7 @@ use Rattle.membership.specs.declared.Judgement.{Judgement}
 use Rattle.membership.specs.declared.Judgement.the-variants as judgement
 use Rattle.membership.specs.Verdict.{lassoFault, verdictOf, saysOf, checkSays}
 use Rattle.membership.specs.Steps.{endedOf}
-use Rattle.membership.specs.declared.Normalized.{Normalized}
+use Rattle.membership.specs.declared.Normalization.{Normalization}
 use Rattle.membership.proofs.Checked as checked-type
 use Rattle.membership.proofs.Judging.{lasso-valid}
 use borrow.Author.Needs.{needs}
@@ -70,7 +70,7 @@ state-below : (c : tie.After-normalize) → c .normalize .result .state < stateC
 state-below c =
     let d = c .before .before .before in
     let n = c .normalize .ensures in
-    omega (arith, ap (λ (n : Normalized). n .state) n, inside (family d) (valid-packable _ (valid d .0) .complete) _ _ (valid d .1) (preperiod (family d) (before d) (loop d)))
+    omega (arith, ap (λ (n : Normalization). n .state) n, inside (family d) (valid-packable _ (valid d .0) .complete) _ _ (valid d .1) (preperiod (family d) (before d) (loop d)))
 
 check-requires : tie.Need-check-requires
 check-requires c κs = search needs

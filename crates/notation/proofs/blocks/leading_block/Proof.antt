@@ -2,7 +2,7 @@
 use mathlib.Core.Path.{ap, sym, _∙_}
 use denote.Ref.{now}
 use Rattle.notation.specs.declared.Row.{Row}
-use Rattle.notation.specs.Reading.{each, rowAt, turnedOf, leadingRow, leadingAt, stepSays}
+use Rattle.notation.specs.Reading.{each, rowAt, numberedOf, leadingRow, leadingAt, stepSays}
 use Rattle.notation.proofs.Steps.{goes-on, stops}
 use borrow.Author.Needs.{needs}
 use Rattle.notation.proofs.blocks.leading_block.Statement.{statement}
@@ -39,7 +39,7 @@ returns-2 c =
     let s = c .before .before .before .before .before .before .before .before in
     let t = now (s .args .text) in
     c .read-rows .ensures
-    ∙ (ap (λ (r : Row). each (s .args .n) (λ i. rowAt t (turnedOf r 0 i)) 0 (c .before .before .before .step2 .given .0 .0)) (c .before .leading-row .ensures)
+    ∙ (ap (λ (r : Row). each (s .args .n) (λ i. rowAt t (numberedOf r 0 i)) 0 (c .before .before .before .step2 .given .0 .0)) (c .before .leading-row .ensures)
     ∙ sym (goes-on (each (s .args .n) (λ q. rowAt t (leadingRow (s .args .s) (s .args .n) q)) 0) (sym (c .before .before .before .before .before .head .ensures) ∙ ap stepSays (c .before .before .before .step2 .given .1))))
 
 pub leading-block-spec : {M : Type 1} → statement M

@@ -4,7 +4,7 @@ use Prim.Native.Nat.{_-_, _≤_}
 use native.Mathlib.Omega.{arith}
 use denote.Ref.{now}
 use Rattle.notation.specs.declared.Row.{Row}
-use Rattle.notation.specs.Reading.{each, rowAt, turnedOf, progressRow, sizeIn, partsAt, stepSays}
+use Rattle.notation.specs.Reading.{each, rowAt, numberedOf, progressRow, sizeIn, partsAt, stepSays}
 use Rattle.notation.proofs.Steps.{Steps, each-on, each-stop, each-end, each-all}
 use borrow.Author.Needs.{needs}
 use Rattle.notation.proofs.blocks.progress_rows.Statement.{statement}
@@ -30,7 +30,7 @@ said c =
     let t = now (s .args .text) in
     let e = c .before .before .size-in .ensures .0 in
     (λ k. each (sym e k) (λ j. rowAt t (progressRow (s .args .s) (i .q) (sym e k) j)) 0 (i .p))
-    ∙ (ap (λ (r : Row). each (c .before .before .size-in .result) (λ j. rowAt t (turnedOf r 1 j)) 0 (i .p)) (sym (c .before .progress-row .ensures)) ∙ sym (c .read-rows .ensures))
+    ∙ (ap (λ (r : Row). each (c .before .before .size-in .result) (λ j. rowAt t (numberedOf r 1 j)) 0 (i .p)) (sym (c .before .progress-row .ensures)) ∙ sym (c .read-rows .ensures))
 
 loop-holds : tie.Need-loop-holds Inv-loop μ-loop
 unfolding partsAt

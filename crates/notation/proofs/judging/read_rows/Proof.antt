@@ -3,7 +3,7 @@ use mathlib.Core.Path.{_≡_, ap, sym, _∙_}
 use Prim.Native.Nat.{_-_, _≤_}
 use denote.Ref.{now}
 use Rattle.notation.specs.declared.Row.{Row}
-use Rattle.notation.specs.Reading.{each, rowAt, turnedOf, stepSays}
+use Rattle.notation.specs.Reading.{each, rowAt, numberedOf, stepSays}
 use Rattle.notation.proofs.Steps.{Steps, each-on, each-stop, each-end, each-all}
 use borrow.Author.Needs.{needs}
 use Rattle.notation.proofs.judging.read_rows.Statement.{statement}
@@ -11,25 +11,25 @@ use Rattle.notation.proofs.judging.read_rows.Tie as tie
 
 abbrev Inv-loop : tie.InvT-loop
 Inv-loop text at r turn count p₀ i₀ p i =
-    (i ≤ count) × (each count (λ j. rowAt text (turnedOf r turn j)) 0 at ≡ each (count - i) (λ j. rowAt text (turnedOf r turn j)) i p)
+    (i ≤ count) × (each count (λ j. rowAt text (numberedOf r turn j)) 0 at ≡ each (count - i) (λ j. rowAt text (numberedOf r turn j)) i p)
 
 abbrev μ-loop : tie.MeasureT-loop
 μ-loop text at r turn count p₀ i₀ p i = count - i
 
 abbrev steps : tie.Start Inv-loop μ-loop → Steps
-steps s = λ j. rowAt (now (s .args .text)) (turnedOf (s .args .r) (s .args .turn) j)
+steps s = λ j. rowAt (now (s .args .text)) (numberedOf (s .args .r) (s .args .turn) j)
 
 said : (c : tie.After-read-row Inv-loop μ-loop) → let s = c .before .before .before .before .before in let i = c .before .before .before .loop in steps s (i .i) (i .p) ≡ stepSays (c .read-row .result)
 said c =
     let s = c .before .before .before .before .before in
     let i = c .before .before .before .loop in
-    ap (λ (r : Row). rowAt (now (s .args .text)) r (i .p)) (sym (c .before .turned .ensures)) ∙ sym (c .read-row .ensures)
+    ap (λ (r : Row). rowAt (now (s .args .text)) r (i .p)) (sym (c .before .numbered .ensures)) ∙ sym (c .read-row .ensures)
 
 loop-holds : tie.Need-loop-holds Inv-loop μ-loop
 loop-holds c = let s = c .before in (search needs, each-all (s .args .count) (steps s) (s .args .at))
 
-turned-requires : tie.Need-turned-requires Inv-loop μ-loop
-turned-requires c κs = search needs
+numbered-requires : tie.Need-numbered-requires Inv-loop μ-loop
+numbered-requires c κs = search needs
 
 read-row-requires : tie.Need-read-row-requires Inv-loop μ-loop
 read-row-requires c κs = search needs
@@ -71,7 +71,7 @@ read-rows-spec =
     Inv-loop
     μ-loop
     loop-holds
-    turned-requires
+    numbered-requires
     read-row-requires
     enum-known-step
     returns
