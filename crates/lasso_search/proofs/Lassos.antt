@@ -14,7 +14,7 @@ use Rattle.fdfa.proofs.Words.{over-left, over-right}
 use Rattle.fdfa.proofs.Emptiness.{Walks, walks, walked}
 use Rattle.search.specs.Words.{Word, ε, _·_, _⊏_, _⊑_, same, less, run, Over, size, letters}
 use Rattle.search.proofs.Letters.{letters-over, walk-letters, word, letters-word, length-letters, ordered}
-use Rattle.lasso_search.specs.Codes.{Lasso, First, FirstAt}
+use Rattle.lasso_search.specs.Codes.{AcceptedWords, FirstWords, FirstAt}
 
 over-letters : {s : ℕ} (w : Word) → lists.Over s (letters w) → Over s w
 over-letters ε o = tt
@@ -28,7 +28,7 @@ nothing ε e = refl
 nothing (w · a) e = let z : suc (size w) ≡ 0 = sym (length-letters (w · a)) ∙ ap length e in absurd (omega arith)
 
 module _ (P : Fdfa) (C : Complete P) where
-  accepted-lasso : (u v : Word) → Accepted P (letters u) (letters v) → Lasso P u v
+  accepted-lasso : (u v : Word) → Accepted P (letters u) (letters v) → AcceptedWords P u v
   accepted-lasso u v a = record {
     over = over-letters u (w .lasso .prefix);
     turn = record {
@@ -45,7 +45,7 @@ module _ (P : Fdfa) (C : Complete P) where
       at-u : walk (P .step) 0 (letters u) ≡ run (P .step) 0 u
       at-u = walk-letters (P .step) 0 u
 
-  lasso-accepted : (u v : Word) → Lasso P u v → Accepted P (letters u) (letters v)
+  lasso-accepted : (u v : Word) → AcceptedWords P u v → Accepted P (letters u) (letters v)
   lasso-accepted u v l = walked P C (letters u) (letters v) (record {
     lasso = record { prefix = letters-over u (l .over); period = letters-over v (l .turn .over); loops = λ e. l .turn .loops (nothing v e) };
     back = rw (at-u, walk-letters (P .step) (run (P .step) 0 u) v) (l .turn .back);
@@ -56,12 +56,12 @@ module _ (P : Fdfa) (C : Complete P) where
       at-u = walk-letters (P .step) 0 u
 
   -- none, for words as lists
-  pub none-accepted : ((u v : Word) → Lasso P u v → ⊥) → (u v : List ℕ) → Accepted P u v → ⊥
+  pub none-accepted : ((u v : Word) → AcceptedWords P u v → ⊥) → (u v : List ℕ) → Accepted P u v → ⊥
   none-accepted n u v a =
       n (word u) (word v) (accepted-lasso (word u) (word v)
       (subst (λ (x : List ℕ). Accepted P x (letters (word v))) (sym (letters-word u)) (subst (Accepted P u) (sym (letters-word v)) a)))
 
-  pub first-accepted : {n : ℕ} {work : List ℕ} {i h : ℕ} → FirstAt (Lasso P) n work i h → FirstAt (λ u v. Accepted P (letters u) (letters v)) n work i h
+  pub first-accepted : {n : ℕ} {work : List ℕ} {i h : ℕ} → FirstAt (AcceptedWords P) n work i h → FirstAt (λ u v. Accepted P (letters u) (letters v)) n work i h
   first-accepted A = record {
     u = A .u;
     v = A .v;
@@ -77,7 +77,7 @@ upto v l w same e = inl e
 upto v l w (less p) e = inr (subst (Shortlex (letters v)) e (ordered p))
 
 -- the first of some lassos, by their letters
-pub first-letters : {P : List ℕ → List ℕ → Type 0} {u v : Word} → First (λ u v. P (letters u) (letters v)) u v → model.First P (letters u) (letters v)
+pub first-letters : {P : List ℕ → List ℕ → Type 0} {u v : Word} → FirstWords (λ u v. P (letters u) (letters v)) u v → model.First P (letters u) (letters v)
 first-letters {P} {u} {v} F = record { has = F .is; least = λ u′ v′ p. least u′ v′ (F .least (word u′) (word v′) (back u′ v′ p)) }
   where
     back : (u′ v′ : List ℕ) → P u′ v′ → P (letters (word u′)) (letters (word v′))

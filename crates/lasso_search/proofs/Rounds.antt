@@ -12,7 +12,7 @@ use Rattle.search.specs.Words.{Word, _⊏_, _⊑_, same, less, run}
 use Rattle.search.specs.Queue.{stateAt}
 use Rattle.search.specs.Search.{Space, Ends, joint, Ready}
 use Rattle.search.proofs.Shortlex.{⊑-trans}
-use Rattle.lasso_search.specs.Codes.{Loop, Lasso, FirstAt, Tabulated, Leads}
+use Rattle.lasso_search.specs.Codes.{AcceptedPeriod, AcceptedWords, FirstAt, Tabulated, Leads}
 use Rattle.lasso_search.proofs.Joined.{aimAt, ending, ending-first, no-ending}
 
 -- the cells behind the first n, as they are lent and come back
@@ -42,26 +42,26 @@ module _ (n : ℕ) (work : List ℕ) (h : n ≤ length work) where
 pub record Round (P : Fdfa) (front : List ℕ) (reached i : ℕ) : Type 0 where
   pub leads : Leads (P .step) (P .letters) (P .states) front reached
   pub upto : i ≤ reached
-  pub none : (j : ℕ) → j < i → (v : Word) → Loop P (stateAt 0 front j) v → ⊥
+  pub none : (j : ℕ) → j < i → (v : Word) → AcceptedPeriod P (stateAt 0 front j) v → ⊥
 
 module _ {P : Fdfa} {front : List ℕ} {reached i : ℕ} (O : Round P front reached i) where
   pub round-in : {q : ℕ} → i < reached → q ≡ stateAt 0 front i → q < P .states
   round-in h e = rw (e, O .leads .states i h) (O .leads .inside i h)
 
-  pub round-next : {q : ℕ} → i < reached → q ≡ stateAt 0 front i → ((v : Word) → Loop P q v → ⊥) → Round P front reached (i + 1)
+  pub round-next : {q : ℕ} → i < reached → q ≡ stateAt 0 front i → ((v : Word) → AcceptedPeriod P q v → ⊥) → Round P front reached (i + 1)
   round-next {q} h e no-loop = record { leads = O .leads; upto = omega arith; none = λ j l v t. by j (decLt j i) (omega arith) v t }
     where
-      by : (j : ℕ) → Dec (j < i) → j ≤ i → (v : Word) → Loop P (stateAt 0 front j) v → ⊥
+      by : (j : ℕ) → Dec (j < i) → j ≤ i → (v : Word) → AcceptedPeriod P (stateAt 0 front j) v → ⊥
       by j (yes d) b v t = O .none j d v t
       by j (no d) b v t =
           let z : j ≡ i = omega arith in
-          no-loop v (subst (λ (y : ℕ). Loop P y v) (ap (stateAt 0 front) z ∙ sym e) t)
+          no-loop v (subst (λ (y : ℕ). AcceptedPeriod P y v) (ap (stateAt 0 front) z ∙ sym e) t)
 
   -- a lasso's prefix leads to a state from i on, by a code with no later word
-  opens : (u v : Word) → Lasso P u v → (j : ℕ) × (j < reached) × (i ≤ j) × (O .leads .W j ⊑ u)
+  opens : (u v : Word) → AcceptedWords P u v → (j : ℕ) × (j < reached) × (i ≤ j) × (O .leads .W j ⊑ u)
   opens u v w =
       let a = O .leads .all u (w .over) in
-      (a .0, a .1, late (a .0) (λ l. O .none (a .0) l v (subst (λ (y : ℕ). Loop P y v) (sym (O .leads .states (a .0) (a .1) ∙ a .2)) (w .turn))), a .3)
+      (a .0, a .1, late (a .0) (λ l. O .none (a .0) l v (subst (λ (y : ℕ). AcceptedPeriod P y v) (sym (O .leads .states (a .0) (a .1) ∙ a .2)) (w .turn))), a .3)
     where
       late : (j : ℕ) → (j < i → ⊥) → i ≤ j
       late j no-less = by (decLt j i)
@@ -70,7 +70,7 @@ module _ {P : Fdfa} {front : List ℕ} {reached i : ℕ} (O : Round P front reac
           by (yes d) = absurd (no-less d)
           by (no d) = omega arith
 
-  pub round-none : reached ≤ i → (u v : Word) → Lasso P u v → ⊥
+  pub round-none : reached ≤ i → (u v : Word) → AcceptedWords P u v → ⊥
   round-none h u v w = let o = opens u v w in omega (arith, o .1, o .2)
 
 module _ (P : Fdfa) {leads rows : List ℕ} {k q : ℕ} (L : Tabulated leads (P .states) (P .letters) (P .step)) (R : Tabulated rows k (P .letters) (P .progress q)) (qn : q < P .states) (rk : 0 < k) where
@@ -81,15 +81,15 @@ module _ (P : Fdfa) {leads rows : List ℕ} {k q : ℕ} (L : Tabulated leads (P 
   J = joint leads rows (P .states) (P .letters) q (aimAt (P .states) q k (P .accepting q))
 
   -- the search from q is exhausted
-  pub exhausted : {marks cells : List ℕ} {total head : ℕ} → Ready leads rows (P .states) (P .letters) q marks cells total head (aimAt (P .states) q k (P .accepting q)) → total ≤ head → (v : Word) → Loop P q v → ⊥
+  pub exhausted : {marks cells : List ℕ} {total head : ℕ} → Ready leads rows (P .states) (P .letters) q marks cells total head (aimAt (P .states) q k (P .accepting q)) → total ≤ head → (v : Word) → AcceptedPeriod P q v → ⊥
   exhausted A done v l = no-ending L R some qn rk (P .accepting q) (A .bounded) (A .search) done v (l .over) (l .loops) (l .back) (l .accepts)
 
   -- an ending is the first accepted loop at q
-  loop-of : {cells : List ℕ} {code : ℕ} (E : Ends J cells code) → Loop P q (E .word)
+  loop-of : {cells : List ℕ} {code : ℕ} (E : Ends J cells code) → AcceptedPeriod P q (E .word)
   loop-of E = let f = ending L R some qn rk (P .accepting q) E in record { over = E .over; loops = E .some; back = f .0; accepts = f .1 }
 
   pub located : {work : List ℕ} {reached i code : ℕ} → Round P (take (P .states - 1) work) reached i → i < reached → q ≡ stateAt 0 (take (P .states - 1) work) i → P .states - 1 ≤ length work
-      → Ends J (drop (P .states - 1) work) code → FirstAt (Lasso P) (P .states) work i code
+      → Ends J (drop (P .states - 1) work) code → FirstAt (AcceptedWords P) (P .states) work i code
   located {work} {reached} {i} {code} O here e fits E = record {
     u = u;
     v = E .word;
@@ -98,7 +98,7 @@ module _ (P : Fdfa) {leads rows : List ℕ} {k q : ℕ} (L : Tabulated leads (P 
     u-path = O .leads .paths i here;
     v-path = E .path;
     first = record {
-      is = record { over = O .leads .over i here; turn = subst (λ (y : ℕ). Loop P y (E .word)) q-is (loop-of E) };
+      is = record { over = O .leads .over i here; turn = subst (λ (y : ℕ). AcceptedPeriod P y (E .word)) q-is (loop-of E) };
       least = λ u′ v′ w. let o = opens O u′ v′ w in decide u′ v′ (⊑-trans (O .leads .rises i (o .0) (o .2) (o .1)) (o .3)) (w .turn);
     };
   }
@@ -109,8 +109,8 @@ module _ (P : Fdfa) {leads rows : List ℕ} {k q : ℕ} (L : Tabulated leads (P 
       q-is : q ≡ run (P .step) 0 (O .leads .W i)
       q-is = e ∙ O .leads .states i here
 
-      decide : (u′ v′ : Word) → O .leads .W i ⊑ u′ → Loop P (run (P .step) 0 u′) v′ → (O .leads .W i ⊏ u′) ⊎ ((O .leads .W i ≡ u′) × (E .word ⊑ v′))
+      decide : (u′ v′ : Word) → O .leads .W i ⊑ u′ → AcceptedPeriod P (run (P .step) 0 u′) v′ → (O .leads .W i ⊏ u′) ⊎ ((O .leads .W i ≡ u′) × (E .word ⊑ v′))
       decide u′ v′ (less l) t = inl l
       decide u′ v′ same t =
-          let t′ : Loop P q v′ = subst (λ (y : ℕ). Loop P y v′) (sym q-is) t in
+          let t′ : AcceptedPeriod P q v′ = subst (λ (y : ℕ). AcceptedPeriod P y v′) (sym q-is) t in
           inr (refl, ending-first L R some qn rk (P .accepting q) E v′ (t′ .over) (t′ .loops) (t′ .back) (t′ .accepts))

@@ -22,18 +22,18 @@ use Rattle.lasso_search.specs.declared.Codes.{Codes}
 use Rattle.lasso_search.specs.declared.Codes.the-variants.{Absent, Found}
 
 -- A period that is accepted at the leading state q.
-pub record Loop (P : Fdfa) (q : ℕ) (v : Word) : Type 0 where
+pub record AcceptedPeriod (P : Fdfa) (q : ℕ) (v : Word) : Type 0 where
   pub over : Over (P .letters) v
   pub loops : v ≡ ε → ⊥
   pub back : run (P .step) q v ≡ q
   pub accepts : P .accepting q (run (P .progress q) 0 v) ≡ true
 
-pub record Lasso (P : Fdfa) (u v : Word) : Type 0 where
+pub record AcceptedWords (P : Fdfa) (u v : Word) : Type 0 where
   pub over : Over (P .letters) u
-  pub turn : Loop P (run (P .step) 0 u) v
+  pub turn : AcceptedPeriod P (run (P .step) 0 u) v
 
 -- The first of the lassos that have a property.
-pub record First (P : Word → Word → Type 0) (u v : Word) : Type 0 where
+pub record FirstWords (P : Word → Word → Type 0) (u v : Word) : Type 0 where
   pub is : P u v
   pub least : (u′ v′ : Word) → P u′ v′ → (u ⊏ u′) ⊎ ((u ≡ u′) × (v ⊑ v′))
 
@@ -45,7 +45,7 @@ pub record FirstAt (P : Word → Word → Type 0) (n : ℕ) (work : List ℕ) (p
   pub v-in : n - 1 + period ≤ length work
   pub u-path : Path (take (n - 1) work) prefix u
   pub v-path : Path (drop (n - 1) work) period v
-  pub first : First P u v
+  pub first : FirstWords P u v
 
 -- A table has the steps of an automaton of m states, all within it.
 pub record Tabulated (t : List ℕ) (m s : ℕ) (f : ℕ → ℕ → ℕ) : Type 0 where
@@ -98,7 +98,7 @@ pub record Room (P : Fdfa) (n rows marks cells : ℕ) : Type 0 where
 
 -- The search from q is prepared for k pairs of progress states, or no period from q is accepted (0).
 pub record Prepared (P : Fdfa) (n q : ℕ) (rows marks : List ℕ) (k : ℕ) : Type 0 where
-  pub none : k ≡ 0 → (v : Word) → Loop P q v → ⊥
+  pub none : k ≡ 0 → (v : Word) → AcceptedPeriod P q v → ⊥
   pub is : 0 < k → k ≡ P .size q
   pub tabled : 0 < k → Tabulated rows k (P .letters) (P .progress q)
   pub marked : 0 < k → Marked (take (k * n) marks) n q k (P .accepting q)
