@@ -12,24 +12,28 @@ use Rattle.fdfa.specs.Family.{Fdfa, Complete, walk}
 use Rattle.fdfa.specs.Normalization.{Normalized}
 use Rattle.fdfa.specs.Boolean.{beside, product}
 use Rattle.fdfa.specs.Enumeration.{Witness, lasso}
-use Rattle.fdfa.specs.Inclusion.{First, Counterexample, Accepted, Answers, first-is, Counts, of-none, has-it, lacks-it, Reached, widest, emptiness}
+use Rattle.fdfa.specs.Inclusion.{First, Counterexample, Accepted, Answers, first-is, Counts, of-none, has-it, lacks-it, Reached, widest, Comparison, emptiness}
 use Rattle.slices.specs.Extremes.{largest}
 use Rattle.fdfa.proofs.Words.{walk-closed}
 use Rattle.fdfa.proofs.Normal.{back-normalized, normalized-accepts}
-use Rattle.fdfa.proofs.Product.{beside-start}
+use Rattle.fdfa.proofs.Product.{beside-start, product-complete}
 use Rattle.fdfa.proofs.Emptiness.{answers-unique, answers-map, emptiness-answers, empty-none}
 use Rattle.fdfa.proofs.Inclusion.{butNot, accepted-counterexample, counterexample-accepted}
 use Rattle.fdfa.proofs.Reach.{counts-unique, reached-states}
+use Rattle.slices.specs.declared.Part.the-variants as part
+use Rattle.slices.specs.Refusals.{sound}
 use Rattle.slices.specs.Tables.{sum}
 use Rattle.packed.specs.Layout.{letterCount, stateCount, sizeOf, leadingAt, progressAt, marksAt, decode, Valid}
+use Rattle.packed.specs.Faults.{sheetFault}
 use Rattle.packed.proofs.Soundness.{valid-packable}
 use Rattle.pairing.specs.declared.PairSizes.{PairSizes}
 use Rattle.pairing.specs.Pairs as pairing
 use Rattle.pairing.specs.Pairs.{Alike}
 use Rattle.lasso_search.specs.declared.Outcome.{Outcome}
-use Rattle.inclusion.specs.Calls.{DecidesEmptiness}
+use Rattle.lasso_search.specs.Lassos.{difference}
+use Rattle.inclusion.specs.Calls.{Slices, Settled, cellsFault, compareCells, emptyCells, emptyStart, DecidesEmptiness, Emptied, Searched}
 use Rattle.inclusion.specs.Nothing.{nothingBytes}
-use Rattle.inclusion.proofs.Settling.{Shows, shows-none, shows-first, shows-refusal}
+use Rattle.inclusion.proofs.Settling.{Shows, shows-none, shows-first, shows-refusal, settled-shows, settled-good}
 
 zeros-getD : (m x : ℕ) → _≡_ {A = ℕ} (getD (replicate m 0) x 0) 0
 zeros-getD zero x = refl
@@ -136,7 +140,7 @@ module _ (F : Fdfa) (CF : Complete F) (some : 1 ≤ F .letters) (few : F .letter
       closes : Normalized G u v
       closes = back-normalized G CG u v (a .lasso) (at-start (a .lasso .period) (walk-closed (CG .leads) (omega arith) (a .lasso .prefix)) ∙ sym (at-start (a .lasso .prefix) (omega arith)))
 
-  pub empty-witness : {w : Witness} → Answers (Accepted (product butNot F G)) w → w ≡ emptiness F .witness
+  empty-witness : {w : Witness} → Answers (Accepted (product butNot F G)) w → w ≡ emptiness F .witness
   empty-witness a =
       answers-unique
       (answers-map counter-accepted accepted-counter (answers-map (accepted-counterexample F G refl CF CG) (counterexample-accepted F G refl CF CG) a))
@@ -152,7 +156,7 @@ module _ (F : Fdfa) (CF : Complete F) (some : 1 ≤ F .letters) (few : F .letter
   counts-map to fro (has-it {m = m} p c) = has-it (to m p) (counts-map to fro c)
   counts-map to fro (lacks-it {m = m} n c) = lacks-it (λ q. n (fro m q)) (counts-map to fro c)
 
-  pub empty-reached : {r : ℕ} → Counts (Reached (F .letters) (beside 1 (F .step) (G .step))) (F .states * 1) r → r ≡ emptiness F .reached
+  empty-reached : {r : ℕ} → Counts (Reached (F .letters) (beside 1 (F .step) (G .step))) (F .states * 1) r → r ≡ emptiness F .reached
   empty-reached {r} c =
       counts-unique
       (counts-map
@@ -161,13 +165,43 @@ module _ (F : Fdfa) (CF : Complete F) (some : 1 ≤ F .letters) (few : F .letter
       (subst (λ (m : ℕ). Counts (Reached (F .letters) (beside 1 (F .step) (G .step))) m r) (mul-one (F .states)) c))
       (reached-states F CF)
 
+  -- the lassos that are accepted beside nothing are those of the family
+  pub empty-is : emptiness (product butNot F G) ≡ emptiness F
+  empty-is =
+      let CP = product-complete butNot F G refl CF CG in
+      let re = empty-reached (reached-states (product butNot F G) CP) in
+      let we = empty-witness (emptiness-answers (product butNot F G) CP) in λ i. record { reached = re i; witness = we i }
+
   first-of : {u v : List ℕ} → Answers (Accepted F) (lasso u v) → First (Accepted F) u v
   first-of (first-is f) = f
 
   counted : {r : ℕ} → r ≡ emptiness F .reached → Counts (Reached (F .letters) (F .step)) (F .states) r
   counted e = subst (Counts (Reached (F .letters) (F .step)) (F .states)) (sym e) (reached-states F CF)
 
-  pub decides-empty : {o p : List ℕ} {r : Outcome} → Shows (emptiness F .reached) (emptiness F .witness) o p r → DecidesEmptiness F (record { opening = o; period = p }) r
+  decides-empty : {o p : List ℕ} {r : Outcome} → Shows (emptiness F .reached) (emptiness F .witness) o p r → DecidesEmptiness F (record { opening = o; period = p }) r
   decides-empty (shows-none w e) = (counted e, empty-none F CF w)
   decides-empty (shows-first w e a b) = (counted e, subst₂ (First (Accepted F)) (sym a) (sym b) (first-of (subst (Answers (Accepted F)) w (emptiness-answers F CF))))
   decides-empty shows-refusal = tt
+
+module _ (b : List ℕ) (valid : Valid b) where
+  abbrev F : Fdfa
+  F = decode b
+
+  CF : Complete F
+  CF = valid-packable b valid .complete
+
+  pub searched-nothing : {before after : Slices} (r : Outcome) {c : List ℕ} → c ≡ nothingBytes (letterCount b) → Searched (difference b c) (compareCells b c) before after r → Searched F (emptyCells b) before after r
+  searched-nothing {before} {after} r e S =
+      subst₂ (λ (C : Comparison) (k : ℕ). Settled (cellsFault k (length (before .work))) C k before after r)
+      (ap (λ (x : List ℕ). emptiness (difference b x)) e ∙ empty-is F CF (valid .header .some-letters) (valid .header .few-letters))
+      (sym (ap (λ (z : PairSizes). z .pairs + z .pairs * z .widest) (sizes-beside b valid e)))
+      S
+
+  pub searched-emptied : {before after : Slices} (r : Outcome) → sheetFault part.First b ≡ sound → Searched F (emptyCells b) before after r → Emptied b before after r
+  searched-emptied {before} {after} r good S = record {
+    settles = settled;
+    decides = decides-empty F CF (valid .header .some-letters) (valid .header .few-letters) (settled-shows (emptiness F) r settled);
+  }
+    where
+      settled : Settled (emptyStart b (length (before .work))) (emptiness F) (emptyCells b) before after r
+      settled = settled-good good S

@@ -1,16 +1,15 @@
 -- From the search's answer to what a call promises, whatever it searched for. Assumes nothing.
-use mathlib.Core.Path.{_≡_, refl, ap, ap₂, sym, _∙_}
+use mathlib.Core.Path.{_≡_, refl, ap, ap₂, sym, subst, _∙_}
 use mathlib.Core.Bool.{false, true≢false}
 use mathlib.Core.List.{List, _++_}
 use Prim.Native.Nat.{ℕ, _≤_, _<_}
 use native.Mathlib.Omega.{arith}
-use lib.Dec.{ltb}
 use lib.ListN.{length, take, drop, replicate, length-replicate}
 use lib.Seq.{take-at}
 use borrow.Author.Tests.{lt-ltb, le-ltb}
 use Rattle.slices.specs.declared.Part.the-variants.{Work}
 use Rattle.slices.specs.declared.Refusal.{Refusal}
-use Rattle.slices.specs.Refusals.{Fault, sound, fault, _then_, when, unless}
+use Rattle.slices.specs.Refusals.{Fault, sound, fault, _then_, unless}
 use Rattle.slices.specs.Filling.{written, filled}
 use Rattle.slices.proofs.Refusals.{when-fails, when-passes, passed, failed, refuses, was-given}
 use Rattle.fdfa.specs.Family.{Fdfa}
@@ -20,7 +19,7 @@ use Rattle.lasso_search.specs.declared.Comparison.{Comparison}
 use Rattle.lasso_search.specs.declared.Outcome.{Outcome}
 use Rattle.lasso_search.specs.declared.Outcome.the-variants.{Absent, Found, Refused}
 use Rattle.lasso_search.specs.Lassos.{Report, reportOf, outcomeSays, Lent, roomFault, prefixOf, periodOf, lassoWritten, Reports}
-use Rattle.inclusion.specs.Calls.{Slices, callFault, Settled}
+use Rattle.inclusion.specs.Calls.{Slices, callFault, cellsFault, Settled}
 
 -- an answer and the witness that it was given for
 pub data Shows (R : ℕ) (w : Witness) (o p : List ℕ) : Outcome → Type 0 where
@@ -32,38 +31,35 @@ front : (u o : List ℕ) → take (length u) (written u o) ≡ u
 unfolding written
 front u o = take-at u (drop (length u) o) (length u) refl
 
-shows : {R : ℕ} (w : Witness) (l : Lent) {o′ p′ : List ℕ} (r : Outcome) → outcomeSays r ≡ unless (roomFault w l) (reportOf R w)
-    → o′ ≡ filled (roomFault w l) (prefixOf w) (l .opening) → p′ ≡ filled (roomFault w l) (periodOf w) (l .period) → Shows R w o′ p′ r
-shows absent l (Absent z) e a b = shows-none refl (ap (λ (s : Report). s .numbers .reached) (was-given sound _ e .1))
-shows absent l (Found z) e a b = absurd (true≢false (sym (ap (λ (s : Report). s .none) (was-given sound _ e .1))))
-shows absent l (Refused r) e a b = shows-refusal
-shows (lasso u v) l (Absent z) e a b = absurd (true≢false (ap (λ (s : Report). s .none) (was-given (roomFault (lasso u v) l) _ e .1)))
-shows {R} (lasso u v) l {o′} {p′} (Found z) e a b =
-    shows-first refl (ap (λ (s : Report). s .numbers .reached) q) (ap₂ take (ap (λ (s : Report). s .numbers .prefix) q) opening ∙ front u (l .opening))
-    (ap₂ take (ap (λ (s : Report). s .numbers .period) q) period ∙ front v (l .period))
+-- the answer of a settled call is given for its witness
+pub settled-shows : {start : Fault} (C : model.Comparison) {cells : ℕ} {before after : Slices} (r : Outcome) → Settled start C cells before after r
+    → Shows (C .reached) (C .witness) (after .opening) (after .period) r
+settled-shows {start} C {before = l} {after = o} r S = by (C .witness) r (callFault start C l) (S .says) (S .opening) (S .period)
   where
-    fits : roomFault (lasso u v) l ≡ sound
-    fits = was-given (roomFault (lasso u v) l) _ e .0
+    by : (w : Witness) (r : Outcome) (f : Fault) → outcomeSays r ≡ unless f (reportOf (C .reached) w)
+        → o .opening ≡ filled f (prefixOf w) (l .opening) → o .period ≡ filled f (periodOf w) (l .period) → Shows (C .reached) w (o .opening) (o .period) r
+    by absent (Absent z) f e a b = shows-none refl (ap (λ (s : Report). s .numbers .reached) (was-given f _ e .1))
+    by absent (Found z) f e a b = absurd (true≢false (sym (ap (λ (s : Report). s .none) (was-given f _ e .1))))
+    by (lasso u v) (Absent z) f e a b = absurd (true≢false (ap (λ (s : Report). s .none) (was-given f _ e .1)))
+    by (lasso u v) (Found z) f e a b =
+        let fits : f ≡ sound = was-given f _ e .0 in
+        let q : _≡_ {A = Report} (record { none = false; numbers = z }) (reportOf (C .reached) (lasso u v)) = was-given f _ e .1 in
+        shows-first refl (ap (λ (s : Report). s .numbers .reached) q)
+        (ap₂ take (ap (λ (s : Report). s .numbers .prefix) q) (a ∙ ap (λ (f : Fault). filled f u (l .opening)) fits) ∙ front u (l .opening))
+        (ap₂ take (ap (λ (s : Report). s .numbers .period) q) (b ∙ ap (λ (f : Fault). filled f v (l .period)) fits) ∙ front v (l .period))
+    by w (Refused r) f e a b = shows-refusal
 
-    q : _≡_ {A = Report} (record { none = false; numbers = z }) (reportOf R (lasso u v))
-    q = was-given (roomFault (lasso u v) l) _ e .1
+-- what is settled where the sheets are good is settled
+pub settled-good : {F W : Fault} {C : model.Comparison} {cells : ℕ} {before after : Slices} {r : Outcome} → F ≡ sound → Settled W C cells before after r → Settled (F then W) C cells before after r
+settled-good {W = W} {C} {cells} {before} {after} {r} good S = subst (λ (f : Fault). Settled f C cells before after r) (sym (passed W good)) S
 
-    opening : o′ ≡ written u (l .opening)
-    opening = a ∙ ap (λ (f : Fault). filled f u (l .opening)) fits
+-- m cells are needed
+module _ {work cells m : ℕ} (e : m ≡ cells) where
+  pub cells-refused : work < m → cellsFault cells work ≡ fault (record { number = 22; part = Work; place = m })
+  cells-refused l = when-fails 22 Work cells (lt-ltb work cells (omega arith)) ∙ ap (λ (x : ℕ). fault (record { number = 22; part = Work; place = x })) (sym e)
 
-    period : p′ ≡ written v (l .period)
-    period = b ∙ ap (λ (f : Fault). filled f v (l .period)) fits
-shows (lasso u v) l (Refused r) e a b = shows-refusal
-
--- the cells, once the sheets are good: m of them are needed
-module _ {F : Fault} {work cells m : ℕ} (good : F ≡ sound) (e : m ≡ cells) where
-  pub cells-refused : work < m → F then when (ltb work cells) 22 Work cells ≡ fault (record { number = 22; part = Work; place = m })
-  cells-refused l =
-      passed _ good
-      ∙ (when-fails 22 Work cells (lt-ltb work cells (omega arith)) ∙ ap (λ (x : ℕ). fault (record { number = 22; part = Work; place = x })) (sym e))
-
-  pub cells-suffice : m ≤ work → F then when (ltb work cells) 22 Work cells ≡ sound
-  cells-suffice l = passed _ good ∙ when-passes 22 Work cells (le-ltb work cells (omega arith))
+  pub cells-suffice : m ≤ work → cellsFault cells work ≡ sound
+  cells-suffice l = when-passes 22 Work cells (le-ltb work cells (omega arith))
 
 module _ (start : Fault) (C : model.Comparison) (cells : ℕ) (before : Slices) where
   -- refused before the search
@@ -97,9 +93,6 @@ module _ (start : Fault) (C : model.Comparison) (cells : ℕ) (before : Slices) 
 
     period : p′ ≡ filled (roomFault (C .witness) lent) (periodOf (C .witness)) (before .period)
     period = ap (λ (l : Lent). l .period) after
-
-    pub reports-shows : Shows (C .reached) (C .witness) o′ p′ r
-    reports-shows = shows (C .witness) lent r says opening period
 
     pub settled-reports : {front : List ℕ} {m : ℕ} → front ≡ replicate m 0 → m ≡ cells → Settled start C cells before (record { opening = o′; period = p′; work = front ++ drop m (before .work) }) r
     unfolding written

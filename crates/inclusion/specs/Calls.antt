@@ -41,12 +41,16 @@ pub record Settled (start : Fault) (C : model.Comparison) (cells : ℕ) (before 
   pub period : after .period ≡ filled (callFault start C before) (periodOf (C .witness)) (before .period)
   pub work : after .work ≡ filled start (replicate cells 0) (before .work)
 
+-- The cells that the search needs.
+abbrev pub cellsFault : ℕ → ℕ → Fault
+cellsFault cells work = when (ltb work cells) 22 Work cells
+
 -- N + N × K cells of work; before the search: first sheet, second sheet, 7, 22.
 abbrev pub compareCells : List ℕ → List ℕ → ℕ
 compareCells b c = pairs (decode b) (decode c) + combinations (decode b) (decode c)
 
 abbrev pub compareStart : List ℕ → List ℕ → ℕ → Fault
-compareStart b c work = pairFault b c then when (ltb work (compareCells b c)) 22 Work (compareCells b c)
+compareStart b c work = pairFault b c then cellsFault (compareCells b c) work
 
 -- The third demand. R counts the pairs that prefixes of whatever length reach. Absent: no lasso, of whatever length, closes
 -- in both, is accepted by the first and rejected by the second, and where both are turn-proof no lasso at all is accepted
@@ -71,7 +75,7 @@ abbrev pub emptyCells : List ℕ → ℕ
 emptyCells b = decode b .states + decode b .states * widest (decode b)
 
 abbrev pub emptyStart : List ℕ → ℕ → Fault
-emptyStart b work = sheetFault First b then when (ltb work (emptyCells b)) 22 Work (emptyCells b)
+emptyStart b work = sheetFault First b then cellsFault (emptyCells b) work
 
 -- R counts the leading states that prefixes of whatever length reach. Absent: no lasso at all is accepted. Found: the first
 -- that closes and is accepted.
@@ -88,3 +92,7 @@ DecidesEmptiness F after (Refused r) = Unit {0}
 pub record Emptied (b : List ℕ) (before after : Slices) (r : Outcome) : Type 0 where
   pub settles : Settled (emptyStart b (length (before .work))) (emptiness (decode b)) (emptyCells b) before after r
   pub decides : DecidesEmptiness (decode b) (lasso after) r
+
+-- Of inner functions, where the sheets are good: the first accepted, normalized lasso of a family.
+abbrev pub Searched : Fdfa → ℕ → Slices → Slices → Outcome → Type 0
+Searched P cells before after r = Settled (cellsFault cells (length (before .work))) (emptiness P) cells before after r

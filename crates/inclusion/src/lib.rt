@@ -10,13 +10,12 @@ use slices::Part;
 use slices::narrow;
 use slices::refuse;
 ghost use mathlib.Core.Path.{_≡_};
-ghost use Prim.Native.Nat.{_+_, _*_};
-ghost use lib.ListN.{length, replicate};
-ghost use Rattle.packed.specs.Layout.{Valid};
+ghost use Rattle.packed.specs.Layout.{Valid, decode};
 ghost use Rattle.packed.specs.Faults.{sizesOf};
-ghost use Rattle.lasso_search.specs.Lassos.{Reports};
-ghost use Rattle.inclusion.specs.Calls.{Compared, Emptied};
-ghost use Rattle.inclusion.specs.Nothing.{besideNothing};
+ghost use Rattle.pairing.specs.Pairs as pairs;
+ghost use Rattle.pairing.specs.Pairs.{Alike};
+ghost use Rattle.lasso_search.specs.Lassos.{difference};
+ghost use Rattle.inclusion.specs.Calls.{Compared, Emptied, Searched, compareCells, emptyCells};
 
 // Whether the first sheet is contained in the second: whether every lasso that is normalized in both and accepted by the
 // first is accepted by the second. Otherwise the first that is not is written.
@@ -35,14 +34,30 @@ pub fn compare(
     let pair = pairing::check(first, second);
     match pair {
         Sized::Refused(r) => Outcome::Refused(r),
-        Sized::Paired(z) => {
-            let cells = z.pairs + z.pairs * z.widest;
-            if work.len() < cells {
-                return Outcome::Refused(refuse(22, Part::Work, cells));
-            }
-            first_lasso(first, second, z, opening, period, &mut work[..cells])
-        }
+        Sized::Paired(z) => search_cells(first, second, z, opening, period, work),
     }
+}
+
+// The search in the N + N × K cells that it needs, or 22.
+fn search_cells(
+    first: &[u8],
+    second: &[u8],
+    sizes: PairSizes,
+    opening: &mut [u8],
+    period: &mut [u8],
+    work: &mut [u64],
+) -> Outcome
+    requires { ⌜ Alike (now first) (now second) × (sizes ≡ pairs.sizesOf (now first) (now second)) ⌝ }
+    ensures { λ r. ⌜ Searched (difference (now (first .entry)) (now (second .entry))) (compareCells (now (first .entry)) (now (second .entry)))
+        (record { opening = now (opening .entry); period = now (period .entry); work = now (work .entry) })
+        (record { opening = now (opening .exit); period = now (period .exit); work = now (work .exit) })
+        r ⌝ }
+{
+    let cells = sizes.pairs + sizes.pairs * sizes.widest;
+    if work.len() < cells {
+        return Outcome::Refused(refuse(22, Part::Work, cells));
+    }
+    first_lasso(first, second, sizes, opening, period, &mut work[..cells])
 }
 
 // The first accepted, normalized lasso: emptiness as inclusion in the family with one state everywhere that accepts nothing.
@@ -53,12 +68,11 @@ fn accepted_lasso(
     period: &mut [u8],
     work: &mut [u64],
 ) -> Outcome
-    requires { ⌜ Valid (now sheet) × (sizes ≡ sizesOf (now sheet)) × (length (now work) ≡ sizes .states + sizes .states * sizes .widest) ⌝ }
-    ensures reports { λ r. ⌜ Reports (besideNothing (now (sheet .entry)))
-        (record { opening = now (opening .entry); period = now (period .entry) })
-        (record { opening = now (opening .exit); period = now (period .exit) })
+    requires { ⌜ Valid (now sheet) × (sizes ≡ sizesOf (now sheet)) ⌝ }
+    ensures { λ r. ⌜ Searched (decode (now (sheet .entry))) (emptyCells (now (sheet .entry)))
+        (record { opening = now (opening .entry); period = now (period .entry); work = now (work .entry) })
+        (record { opening = now (opening .exit); period = now (period .exit); work = now (work .exit) })
         r ⌝ }
-    ensures clears { λ _. ⌜ now (work .exit) ≡ replicate (length (now (work .entry))) 0 ⌝ }
 {
     let letters = sizes.letters;
     let mut nothing = [0u8; 68];
@@ -73,7 +87,7 @@ fn accepted_lasso(
         pairs: sizes.states,
         widest: sizes.widest,
     };
-    first_lasso(sheet, &nothing[..end], pair, opening, period, work)
+    search_cells(sheet, &nothing[..end], pair, opening, period, work)
 }
 
 // Whether the sheet accepts no lasso at all. Otherwise the first that is normalized and accepted is written.
@@ -86,12 +100,6 @@ pub fn emptiness(sheet: &[u8], opening: &mut [u8], period: &mut [u8], work: &mut
     let check = packed::check(sheet, Part::First);
     match check {
         Validity::Refused(r) => Outcome::Refused(r),
-        Validity::Valid(z) => {
-            let cells = z.states + z.states * z.widest;
-            if work.len() < cells {
-                return Outcome::Refused(refuse(22, Part::Work, cells));
-            }
-            accepted_lasso(sheet, z, opening, period, &mut work[..cells])
-        }
+        Validity::Valid(z) => accepted_lasso(sheet, z, opening, period, work),
     }
 }

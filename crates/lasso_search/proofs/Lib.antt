@@ -1,7 +1,7 @@
 mod Marks
 mod Joined
 mod Leading
-mod Difference
+pub mod Difference
 mod Lassos
 mod Rounds
 mod Written

@@ -1,19 +1,16 @@
 -- `inclusion::accepted_lasso` meets its contract. Assumes nothing.
-use mathlib.Core.Path.{_≡_, ap, sym, subst, _∙_}
+use mathlib.Core.Path.{_≡_, ap, sym, _∙_}
 use mathlib.Core.List.{List, _∷_}
 use Prim.Native.Nat.{ℕ, _+_, _*_, _≤_}
 use native.Mathlib.Omega.{arith}
 use denote.Ref.{now}
 use lib.ListN.{length, take, replicate}
-use Rattle.fdfa.specs.Family.{Fdfa}
 use Rattle.packed.specs.declared.Sizes.{Sizes}
 use Rattle.packed.specs.Layout.{letterCount}
 use Rattle.packed.specs.Faults.{sizesOf}
 use Rattle.pairing.specs.declared.PairSizes.{PairSizes}
-use Rattle.lasso_search.specs.Lassos.{difference, Lent, Reports}
-use Rattle.lasso_search.specs.declared.Outcome.{Outcome}
 use Rattle.inclusion.specs.Nothing.{nothingBytes}
-use Rattle.inclusion.proofs.Nothing.{nothing-built, nothing-length, alike-nothing, sizes-beside}
+use Rattle.inclusion.proofs.Nothing.{nothing-built, nothing-length, alike-nothing, sizes-beside, searched-nothing}
 use borrow.Author.Needs.{needs}
 use Rattle.inclusion.proofs.accepted_lasso.Statement.{statement}
 use Rattle.inclusion.proofs.accepted_lasso.Tie as tie
@@ -34,9 +31,6 @@ module _ (c : tie.After-narrow) where
 
   built-is : built ≡ nothingBytes (letterCount (now (s .args .sheet)))
   built-is = built-of ∙ ap (λ (z : Sizes). nothingBytes (z .letters)) (s .pre .1)
-
-reports-as : {P Q : Fdfa} {before after : Lent} {r : Outcome} → P ≡ Q → Reports P before after r → Reports Q before after r
-reports-as {before = before} {after = after} {r = r} e R = subst (λ (X : Fdfa). Reports X before after r) e R
 
 -- its sizes by the definition
 abbrev z₀ : tie.After-narrow → Sizes
@@ -63,17 +57,17 @@ add-end c = omega (arith, few (s c))
 array-share-prefix-nothing : tie.Need-array-share-prefix-nothing
 array-share-prefix-nothing c = omega (arith, few (s c))
 
-slice-aggregate-first-lasso : tie.Need-slice-aggregate-first-lasso
-slice-aggregate-first-lasso c = let n = c .before in sym (ap length (built-of n) ∙ nothing-length (s n .args .sizes .letters))
+slice-aggregate-search-cells : tie.Need-slice-aggregate-search-cells
+slice-aggregate-search-cells c = let n = c .before in sym (ap length (built-of n) ∙ nothing-length (s n .args .sizes .letters))
 
-first-lasso-requires : tie.Need-first-lasso-requires
-first-lasso-requires c κs =
+search-cells-requires : tie.Need-search-cells-requires
+search-cells-requires c κs =
     let n = c .before .before .before .before in
     let p = s n .pre in
     let e : _≡_ {A = PairSizes} (record { letters = s n .args .sizes .letters; first = s n .args .sizes .states; second = 1; pairs = s n .args .sizes .states; widest = s n .args .sizes .widest })
     (record { letters = z₀ n .letters; first = z₀ n .states; second = 1; pairs = z₀ n .states; widest = z₀ n .widest })
     = ap (λ (z : Sizes). record { letters = z .letters; first = z .states; second = 1; pairs = z .states; widest = z .widest }) (p .1) in
-    (alike-nothing _ (p .0) (built-is n), e ∙ sizes-beside _ (p .0) (built-is n), p .2)
+    (alike-nothing _ (p .0) (built-is n), e ∙ sizes-beside _ (p .0) (built-is n))
 
 same-length : tie.Need-same-length
 same-length c = search needs
@@ -88,7 +82,7 @@ returns : tie.Need-returns
 returns c =
     let f = c .before .before .before .before .before .before in
     let n = f .before .before .before .before .before in
-    (reports-as (ap (difference (now (s n .args .sheet))) (built-is n)) (f .first-lasso .ensures .0), f .first-lasso .ensures .1)
+    searched-nothing (now (s n .args .sheet)) (s n .pre .0) _ (built-is n) (f .search-cells .ensures)
 
 pub accepted-lasso-spec : {M : Type 1} → statement M
 accepted-lasso-spec =
@@ -101,8 +95,8 @@ accepted-lasso-spec =
     mul-end
     add-end
     array-share-prefix-nothing
-    slice-aggregate-first-lasso
-    first-lasso-requires
+    slice-aggregate-search-cells
+    search-cells-requires
     same-length
     same-length-2
     same-length-3
