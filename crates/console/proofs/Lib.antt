@@ -1,1 +1,3 @@
 pub mod Room
+pub mod Digits
+pub mod Printed

@@ -1,13 +1,42 @@
-// What the programs print: text and numbers on standard output, and refusals.
+// What the programs print: texts made in a lent slice, and written to standard output.
 use slices::Part;
 use slices::Refusal;
+use slices::copy;
+use slices::wide;
+ghost use Prim.Native.Nat.{_≤_};
+ghost use lib.ListN.{length};
+ghost use Rattle.console.specs.Printed.{field, partField, refusalText, Shows};
+
+// Room for a refusal: its line of names, 19 bytes, two numbers and a name.
+const REFUSAL: usize = 80;
 
 // Writes all of a text to standard output.
 pub fn print(text: &[u8]) {
     io::write_all(libc::STDOUT_FILENO, text);
 }
 
+// A text at the start of a slice, and its length.
+pub fn put(text: &[u8], out: &mut [u8]) -> usize
+    requires { ⌜ length (now text) ≤ length (now out) ⌝ }
+    ensures { λ n. ⌜ Shows (now (text .entry)) (now (out .entry)) (now (out .exit)) n ⌝ }
+{
+    copy(text, out);
+    text.len()
+}
+
 // The digits that a number takes, then the byte that ends its field.
+pub fn put_number(n: usize, end: u8, out: &mut [u8]) -> usize
+    requires { ⌜ 21 ≤ length (now out) ⌝ }
+    ensures { λ r. ⌜ Shows (field n end) (now (out .entry)) (now (out .exit)) r × (r ≤ 21) ⌝ }
+{
+    let mut digits = [0u8; 20];
+    let k = io::decimal(n as u64, &mut digits);
+    copy(&digits[..k], out);
+    out[k] = end;
+    k + 1
+}
+
+// The same, printed.
 pub fn print_number(n: usize, end: u8) {
     let mut digits = [0u8; 20];
     let k = io::decimal(n as u64, &mut digits);
@@ -15,23 +44,37 @@ pub fn print_number(n: usize, end: u8) {
     print(&[end]);
 }
 
-fn print_part(part: Part) {
+// A part's name and a space.
+fn put_part(part: Part, out: &mut [u8]) -> usize
+    requires { ⌜ 8 ≤ length (now out) ⌝ }
+    ensures { λ r. ⌜ Shows (partField part) (now (out .entry)) (now (out .exit)) r × (r ≤ 8) ⌝ }
+{
     match part {
-        Part::First => print(b"first "),
-        Part::Second => print(b"second "),
-        Part::Opening => print(b"opening "),
-        Part::Loop => print(b"loop "),
-        Part::Out => print(b"out "),
-        Part::Work => print(b"work "),
-        Part::Cursor => print(b"cursor "),
+        Part::First => put(b"first ", out),
+        Part::Second => put(b"second ", out),
+        Part::Opening => put(b"opening ", out),
+        Part::Loop => put(b"loop ", out),
+        Part::Out => put(b"out ", out),
+        Part::Work => put(b"work ", out),
+        Part::Cursor => put(b"cursor ", out),
     }
 }
 
 // A refusal: the line of names, then its number, part and place.
-pub fn print_refusal(r: Refusal) {
-    print(b"refused part place\n");
-    print_number(r.number as usize, b' ');
+pub fn refusal_text(r: Refusal, out: &mut [u8]) -> usize
+    requires { ⌜ 80 ≤ length (now out) ⌝ }
+    ensures { λ n. ⌜ Shows (refusalText r) (now (out .entry)) (now (out .exit)) n ⌝ }
+{
+    let mut at = put(b"refused part place\n", out);
+    at += put_number(wide(r.number), b' ', &mut out[at..]);
     let part = r.part;
-    print_part(part);
-    print_number(r.place, b'\n');
+    at += put_part(part, &mut out[at..]);
+    at += put_number(r.place, b'\n', &mut out[at..]);
+    at
+}
+
+pub fn print_refusal(r: Refusal) {
+    let mut text = [0u8; REFUSAL];
+    let n = refusal_text(r, &mut text);
+    print(&text[..n]);
 }

@@ -1,0 +1,70 @@
+-- Texts made in a lent slice, one after the other. Assumes nothing.
+use mathlib.Core.Path.{_≡_, ap, sym, subst, _∙_}
+use mathlib.Core.List.{List, [], _∷_, _++_, append-assoc}
+use Prim.Native.Nat.{ℕ, _+_, _-_, _≤_}
+use native.Mathlib.Omega.{arith}
+use lib.ListN.{length, take, drop, set, length-append}
+use Rattle.slices.specs.declared.Part.{Part}
+use Rattle.slices.specs.declared.Part.the-variants.{First, Second, Opening, Loop, Out, Work, Cursor}
+use Rattle.slices.specs.declared.Refusal.{Refusal}
+use Rattle.io.specs.Digits.{digits, Fewest}
+use Rattle.slices.specs.Filling.{written}
+use Rattle.slices.proofs.Filling.{Begun, begun-first, begun-more, begun-cell, lent-length}
+use Rattle.console.specs.Printed.{field, partField, refusalTitle, refusalText, Shows}
+use Rattle.console.proofs.Digits.{digits-of}
+
+pub shows-begun : {d old out : List ℕ} {n : ℕ} → Shows d old out n → Begun d old out
+shows-begun {d} s = begun-first (s .cells) (omega (arith, s .says, s .fits))
+
+pub shows-length : {d old out : List ℕ} {n : ℕ} → Shows d old out n → length out ≡ length old
+shows-length s = shows-begun s .same
+
+pub shows-as : {d e old out : List ℕ} {n : ℕ} → d ≡ e → Shows d old out n → Shows e old out n
+shows-as {old = old} {out = out} {n = n} p s = subst (λ (x : List ℕ). Shows x old out n) p s
+
+-- one text more, made in the part that is lent from the end of the last on
+pub shows-more : {d old out : List ℕ} (chunk last : List ℕ) {a k : ℕ} → Shows d old out a → Shows chunk (take (length out - a) (drop a out)) last k
+    → Shows (d ++ chunk) old (take a out ++ (last ++ drop (length out - a) (drop a out))) (a + k)
+shows-more {d} {old} {out} chunk last {a} {k} s t = record {
+  says = omega (arith, s .says, t .says, length-append d chunk);
+  fits = room;
+  cells = begun-more chunk last (shows-begun s) (sym (s .says)) (omega (arith, t .says, room)) (t .cells) .cells;
+}
+  where
+    room : a + k ≤ length old
+    room = omega (arith, t .fits, s .fits, lent-length {a = a} (shows-begun s) (s .fits))
+
+-- a number's digits and the byte after them
+pub number-shown : (n end k : ℕ) (buffer : List ℕ) {old mid : List ℕ} → Fewest 10 1 n k → take k buffer ≡ digits 10 k n → length (take k buffer) ≡ k
+    → k + 1 ≤ length old → mid ≡ written (take k buffer) old → Shows (field n end) old (set mid k end) (k + 1)
+number-shown n end k buffer {old} {mid} f e l h c = record {
+  says = omega (arith, l, ap length same, length-append (take k buffer) (end ∷ []));
+  fits = h;
+  cells = begun-cell end (begun-first {d = take k buffer} c (omega arith)) l (omega arith) .cells ∙ ap (λ (d : List ℕ). written d old) same;
+}
+  where
+    same : take k buffer ++ (end ∷ []) ≡ field n end
+    same = ap (λ (d : List ℕ). d ++ (end ∷ [])) (e ∙ digits-of k n f)
+
+-- a part's name
+part-length : (q : Part) → length (partField q) ≤ 8
+part-length First = omega arith
+part-length Second = omega arith
+part-length Opening = omega arith
+part-length Loop = omega arith
+part-length Out = omega arith
+part-length Work = omega arith
+part-length Cursor = omega arith
+
+pub part-shown : {part : Part} (q : Part) {old out : List ℕ} {n : ℕ} → part ≡ q → Shows (partField q) old out n
+    → Shows (partField part) old out n × (n ≤ 8)
+part-shown q e s = (shows-as (ap partField (sym e)) s, omega (arith, s .says, part-length q))
+
+-- the fields of a refusal, in their order
+pub four : (a b c d : List ℕ) → ((a ++ b) ++ c) ++ d ≡ a ++ b ++ c ++ d
+four a b c d = simp append-assoc
+
+pub refusal-joined : (r : Refusal) {w : ℕ} → w ≡ r .number → ((refusalTitle ++ field w 32) ++ partField (r .part)) ++ field (r .place) 10 ≡ refusalText r
+refusal-joined r {w} e =
+    ap (λ (n : ℕ). ((refusalTitle ++ field n 32) ++ partField (r .part)) ++ field (r .place) 10) e
+    ∙ four refusalTitle (field (r .number) 32) (partField (r .part)) (field (r .place) 10)

@@ -1,0 +1,52 @@
+-- What a program prints, as bytes (01): numbers in the digits they need, and refusals. Assumes nothing.
+use mathlib.Core.Path.{_≡_}
+use mathlib.Core.Bool.{cond}
+use mathlib.Core.List.{List, [], _∷_, _++_}
+use Prim.Native.Nat.{ℕ, zero, suc, _+_, _/_, _%_, _≤_}
+use lib.Dec.{ltb}
+use lib.ListN.{length}
+use Rattle.slices.specs.declared.Part.{Part}
+use Rattle.slices.specs.declared.Part.the-variants.{First, Second, Opening, Loop, Out, Work, Cursor}
+use Rattle.slices.specs.declared.Refusal.{Refusal}
+use Rattle.slices.specs.Filling.{written}
+
+-- The decimal digits of n as ASCII, the last of them after those of n / 10; at most k of them.
+unfoldable pub digitsWithin : ℕ → ℕ → List ℕ
+digitsWithin zero n = []
+digitsWithin (suc k) n = cond (ltb n 10) ((48 + n) ∷ []) (digitsWithin k (n / 10) ++ ((48 + n % 10) ∷ []))
+
+-- As many as it needs: n has at most n + 1.
+unfoldable pub digitsOf : ℕ → List ℕ
+digitsOf n = digitsWithin (suc n) n
+
+-- A number and the byte that ends its field.
+abbrev pub field : ℕ → ℕ → List ℕ
+field n end = digitsOf n ++ (end ∷ [])
+
+-- "first", "second", "opening", "loop", "out", "work", "cursor"
+abbrev pub partName : Part → List ℕ
+partName First = 102 ∷ 105 ∷ 114 ∷ 115 ∷ 116 ∷ []
+partName Second = 115 ∷ 101 ∷ 99 ∷ 111 ∷ 110 ∷ 100 ∷ []
+partName Opening = 111 ∷ 112 ∷ 101 ∷ 110 ∷ 105 ∷ 110 ∷ 103 ∷ []
+partName Loop = 108 ∷ 111 ∷ 111 ∷ 112 ∷ []
+partName Out = 111 ∷ 117 ∷ 116 ∷ []
+partName Work = 119 ∷ 111 ∷ 114 ∷ 107 ∷ []
+partName Cursor = 99 ∷ 117 ∷ 114 ∷ 115 ∷ 111 ∷ 114 ∷ []
+
+-- A part's name and the space that ends its field.
+abbrev pub partField : Part → List ℕ
+partField part = partName part ++ (32 ∷ [])
+
+-- "refused part place" and a line feed
+abbrev pub refusalTitle : List ℕ
+refusalTitle = 114 ∷ 101 ∷ 102 ∷ 117 ∷ 115 ∷ 101 ∷ 100 ∷ 32 ∷ 112 ∷ 97 ∷ 114 ∷ 116 ∷ 32 ∷ 112 ∷ 108 ∷ 97 ∷ 99 ∷ 101 ∷ 10 ∷ []
+
+-- The line of names, then the number, the part by its name, and the place.
+abbrev pub refusalText : Refusal → List ℕ
+refusalText r = refusalTitle ++ field (r .number) 32 ++ partField (r .part) ++ field (r .place) 10
+
+-- A call filled the start of a slice with a text, and answers how long the text is.
+pub record Shows (text old out : List ℕ) (n : ℕ) : Type 0 where
+  pub says : n ≡ length text
+  pub fits : n ≤ length old
+  pub cells : out ≡ written text old
