@@ -5,12 +5,13 @@ use mathlib.Core.List.{List}
 use Prim.Native.Nat.{ℕ, zero, suc, _+_, _*_, _-_, _≤_, _<_}
 use native.Mathlib.Omega.{arith}
 use native.Mathlib.Decide.{decLt, ℕ-discrete}
-use native.Mathlib.Nat.{add-mul, one-mul, mul-le-mul-right}
+use native.Mathlib.Nat.{mul-le-mul-right}
 use lib.Arith.{digits-div, digits-mod, digits-lt}
 use lib.Dec.{eqb}
 use lib.ListN.{length, getD, set, replicate, length-set, length-replicate}
 use lib.Seq.{getD-set-same, getD-set-other}
 use borrow.Author.Tests.{eq-eqb, ne-eqb}
+use Rattle.slices.proofs.Tables.{row-after}
 use Rattle.lasso_search.specs.Codes.{markOf, freshAt, Marked}
 
 pub getD-replicate : (m x i : ℕ) → i < m → getD (replicate m x) i 0 ≡ x
@@ -32,9 +33,6 @@ marking-none m e l = record {
   done = λ x h. absurd (omega arith);
   left = λ x h i. ap (λ (z : List ℕ). getD z x 0) e ∙ getD-replicate m 1 x (omega arith);
 }
-
-row-after : (y n : ℕ) → (y + 1) * n ≡ y * n + n
-row-after y n = omega (arith, add-mul y 1 n, one-mul n)
 
 module _ {marks : List ℕ} {n q k : ℕ} {ends : ℕ → Bool} {y : ℕ} (M : Marking marks n q k ends y) (h : y < k) (qn : q < n) where
   pub marking-in : y * n + q < length marks

@@ -8,12 +8,11 @@ use lib.ListN.{length, set, length-set}
 use Rattle.slices.specs.Tables.{tab, sum, table}
 use Rattle.packed.specs.Layout.{mark, frontBytes, partBytes}
 use Rattle.slices.proofs.Tables.{tab-same, rows-same}
-use Rattle.packed.proofs.Packing.{length-front, length-part}
+use Rattle.packed.proofs.Packing.{length-front, length-part, mark-byte}
 use Rattle.notation.specs.Numerals.{skips, entry}
 use Rattle.notation.specs.Reading.{lettersIn, statesIn, leadIn, progressIn, progressEntry, familyOf, Readable}
 use Rattle.notation.specs.Writing.{Stored}
 use Rattle.notation.proofs.Stores.{stored-then, stored-as}
-use Rattle.notation.proofs.Sheets.{mark-byte}
 use Rattle.notation.proofs.RowsRead.{skips-add, entry-add}
 use Rattle.notation.proofs.Measures.{sum-next}
 

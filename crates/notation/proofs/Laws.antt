@@ -14,7 +14,7 @@ use Rattle.packed.specs.Layout.{decode, mark, partBytes, pack, Valid}
 use Rattle.slices.proofs.Tables.{tab-same, rows-same, length-rows, sum-same}
 use Rattle.packed.proofs.Soundness.{valid-packable}
 use Rattle.packed.proofs.Packing.{pack-decode}
-use Rattle.notation.specs.Text.{digits, cell, separator, line, lineOf, names, head, countsTitle, leadingTitle, progressTitle, countsText, leadingText, partText, progressText, textFor, textOf}
+use Rattle.notation.specs.Text.{lineOf, names, head, countsTitle, leadingTitle, progressTitle, countsText, leadingText, partText, progressText, textFor, textOf}
 use Rattle.notation.specs.Reading.{judged, familyOf, bytesOf, faultOf, readFault}
 use Rattle.notation.proofs.Agreeing.{read-valid, read-text}
 use Rattle.notation.proofs.RoundTrip.{text-judged, text-family}
@@ -72,12 +72,7 @@ read-is t room d = by (sound-given (judged t) (then-left (faultOf (judged t)) _ 
 pub text-once : (b c : List ℕ) → Valid b → Valid c → textOf b ≡ textOf c → b ≡ c
 text-once b c v w e = sym (text-bytes b v) ∙ (ap bytesOf e ∙ text-bytes c w)
 
--- the length of a text: a byte more than its digits for each number, and the lines of names
-pub line-length : (m : ℕ) (f : ℕ → ℕ) → length (line m f) ≡ sum m (λ i. length (digits (f i)) + 1)
-line-length m f =
-    length-rows m (λ i. cell (f i) (separator m i))
-    ∙ sum-same m (λ i. length (cell (f i) (separator m i))) (λ i. length (digits (f i)) + 1) (λ i h. length-append (digits (f i)) (separator m i ∷ []))
-
+-- the length of a text, by its lines
 pub head-length : (title : List ℕ) (s : ℕ) → length (head title s) ≡ length title + length (names s) + 1
 head-length title s = omega (arith, length-append (title ++ names s) (10 ∷ []), length-append title (names s))
 

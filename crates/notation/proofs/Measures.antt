@@ -1,11 +1,10 @@
 -- How long the packed sheet of a text is, and where its parts lie. Assumes nothing.
 use mathlib.Core.Path.{_≡_, refl, ap, ap₂, _∙_}
-use mathlib.Core.List.{List, _++_}
-use Prim.Native.Nat.{ℕ, zero, suc, _+_, _*_, _-_, _≤_, _<_}
+use mathlib.Core.List.{List}
+use Prim.Native.Nat.{ℕ, _+_, _*_, _-_, _≤_, _<_}
 use native.Mathlib.Omega.{arith}
 use native.Mathlib.Numerals.{add-one}
-use native.Mathlib.Nat.{mul-le-mul, suc-mul, le-refl}
-use native.Mathlib.Decide.{ℕ-discrete}
+use native.Mathlib.Nat.{mul-le-mul, le-refl}
 use lib.ListN.{length, length-append}
 use Rattle.slices.specs.Tables.{rows, sum}
 use Rattle.packed.specs.Layout.{frontBytes, partBytes}
@@ -21,19 +20,6 @@ sum-next f q = ap (λ (k : ℕ). sum k f) (add-one q)
 pub sum-none : (f : ℕ → ℕ) → sum 0 f ≡ 0
 unfolding sum
 sum-none f = refl
-
-pub row-end : (i m s : ℕ) → i < m → i * s + s ≤ m * s
-row-end i m s h = let l : suc i ≤ m = omega arith in omega (arith, mul-le-mul l (le-refl s), suc-mul i s)
-
--- a row ends before the end of all rows
-pub rows-upto : (m : ℕ) (f : ℕ → List ℕ) (q : ℕ) → q < m → length (rows q f) + length (f q) ≤ length (rows m f)
-unfolding rows
-rows-upto zero f q h = absurd (omega arith)
-rows-upto (suc m) f q h = by (ℕ-discrete q m) (rows-upto m f q)
-  where
-    by : Dec (q ≡ m) → (q < m → length (rows q f) + length (f q) ≤ length (rows m f)) → length (rows q f) + length (f q) ≤ length (rows m f ++ f m)
-    by (yes e) ih = let d : length (rows q f) + length (f q) ≡ length (rows m f) + length (f m) = λ i. length (rows (e i) f) + length (f (e i)) in omega (arith, d, length-append (rows m f) (f m))
-    by (no e) ih = omega (arith, ih (omega arith), length-append (rows m f) (f m))
 
 abbrev pub partLength : List ℕ → ℕ → ℕ
 partLength t q = familyOf t .size q * (lettersIn t + 1)

@@ -11,12 +11,13 @@ use Rattle.slices.specs.Refusals.{given}
 use Rattle.slices.specs.Tables.{tab, rows}
 use Rattle.packed.specs.Layout.{mark}
 use Rattle.slices.proofs.Tables.{length-tab, getD-tab, rows-same}
+use Rattle.packed.proofs.Packing.{mark-byte}
 use Rattle.notation.specs.declared.Column.{Column}
 use Rattle.notation.specs.Text.{names, head, line, lineOf, countsTitle, leadingTitle, progressTitle, countsText, leadingText, partText, progressText, textFor}
 use Rattle.notation.specs.Numerals.{skips, entry}
 use Rattle.notation.specs.Reading.{_andThen_, each, literalAt, rowAt, columnOf, below, countsRow, leadingRow, progressRow, headAt, leadingAt, partsAt, progressAt, endAt, sizeIn, blocksAt, countsAt, judged, lettersIn, statesIn, leadIn, progressIn, progressEntry, familyOf, Readable}
 use Rattle.notation.proofs.Standing.{At, at-append, at-whole}
-use Rattle.notation.proofs.Sheets.{line-same, mark-byte}
+use Rattle.notation.proofs.Sheets.{line-same}
 use Rattle.notation.proofs.CellsRead.{went}
 use Rattle.notation.proofs.RowsRead.{RowRead, row-was, RowsRead, rows-was}
 use Rattle.notation.proofs.BlocksRead.{literal-was, head-was, end-was, PartsRead, parts-was}

@@ -13,6 +13,7 @@ use Rattle.slices.specs.Refusals.{given, unless, when}
 use Rattle.slices.specs.Tables.{tab, rows, sum}
 use Rattle.packed.specs.Layout.{mark, Packable}
 use Rattle.slices.proofs.Tables.{length-tab, getD-tab, rows-same, sum-same}
+use Rattle.packed.proofs.Packing.{mark-says}
 use Rattle.notation.specs.declared.Column.{Column}
 use Rattle.notation.specs.Text.{names, head, line, lineOf, countsTitle, leadingTitle, progressTitle, countsText, leadingText, partText, progressText, textFor}
 use Rattle.notation.specs.Numerals.{skips, entry}
@@ -27,10 +28,6 @@ use Rattle.notation.proofs.LinesStand.{Fits, skips-line, entry-line, ro
 mark-small : (b : Bool) → mark b < 2
 mark-small true = omega arith
 mark-small false = omega arith
-
-mark-says : (b : Bool) → eqb (mark b) 1 ≡ b
-mark-says true = refl
-mark-says false = refl
 
 module _ (F : Fdfa) (P : Packable F) where
   abbrev s : ℕ

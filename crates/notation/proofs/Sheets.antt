@@ -3,12 +3,12 @@ use mathlib.Core.Path.{_≡_, refl, ap, sym, _∙_}
 use mathlib.Core.List.{List, [], _∷_}
 use Prim.Native.Nat.{ℕ, zero, suc, _+_, _*_, _-_, _≤_, _<_}
 use native.Mathlib.Omega.{arith}
-use lib.Dec.{eqb}
 use lib.ListN.{getD}
 use borrow.Author.Tests.{le-leb}
 use Rattle.slices.specs.Tables.{tab, rows}
-use Rattle.packed.specs.Layout.{letterCount, stateCount, sizeOf, leadingAt, progressAt, marksAt, tableStep, decode, mark, Valid}
+use Rattle.packed.specs.Layout.{letterCount, stateCount, sizeOf, leadingAt, progressAt, marksAt, tableStep, decode, Valid}
 use Rattle.slices.proofs.Tables.{length-tab, getD-tab, rows-same}
+use Rattle.packed.proofs.Packing.{mark-byte}
 use Rattle.notation.specs.declared.Line.{Line}
 use Rattle.notation.specs.declared.Lines.{Lines}
 use Rattle.notation.specs.Text.{cell, separator, line, lineOf, partText}
@@ -18,11 +18,6 @@ pub line-same : (m n : ℕ) (f g : ℕ → ℕ) → m ≡ n → ((i : ℕ) → i
 line-same m n f g e h =
     ap (λ (k : ℕ). line k f) e
     ∙ rows-same n (λ i. cell (f i) (separator n i)) (λ i. cell (g i) (separator n i)) (λ i l. ap (λ (x : ℕ). cell x (separator n i)) (h i l))
-
-pub mark-byte : (x : ℕ) → x < 2 → mark (eqb x 1) ≡ x
-mark-byte zero h = refl
-mark-byte (suc zero) h = refl
-mark-byte (suc (suc x)) h = absurd (omega arith)
 
 -- a byte of a line, after its head
 after : (b : List ℕ) (l : Line) (i k : ℕ) → l .head ≤ i → i - l .head ≡ k → lineValue b l i ≡ getD b (l .from + k) 0

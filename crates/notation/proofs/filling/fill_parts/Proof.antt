@@ -11,7 +11,8 @@ use Rattle.notation.specs.Numerals.{skips}
 use Rattle.notation.specs.Reading.{lettersIn, statesIn, progressIn, sizeIn, familyOf}
 use Rattle.notation.specs.Writing.{Stored}
 use Rattle.notation.proofs.Stores.{stored-none-rows, stored-row, stored-length, stored-as}
-use Rattle.notation.proofs.Measures.{front-few, rows-upto}
+use Rattle.slices.proofs.Tables.{rows-within}
+use Rattle.notation.proofs.Measures.{front-few}
 use Rattle.notation.proofs.Gathered.{first-part, next-part}
 use borrow.Author.Needs.{needs}
 use Rattle.notation.proofs.filling.fill_parts.Statement.{statement}
@@ -54,7 +55,7 @@ fill-part-requires c κs =
       (s .pre .0 .0, s .pre .0 .1, less (c .before .before), sized (c .before)),
       (
         i .inv .1,
-        omega (arith, i .inv .2 .next, stored-length (i .inv .2), rows-upto (statesIn (text s)) (partBytes (familyOf (text s))) (i .q) (less (c .before .before)), s .pre .1),
+        omega (arith, i .inv .2 .next, stored-length (i .inv .2), rows-within (statesIn (text s)) (partBytes (familyOf (text s))) (i .q) (less (c .before .before)), s .pre .1),
       ),
     )
 

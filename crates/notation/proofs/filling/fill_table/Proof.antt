@@ -10,7 +10,7 @@ use Rattle.notation.specs.Numerals.{entry}
 use Rattle.notation.specs.Writing.{Stored}
 use Rattle.notation.proofs.Stores.{stored-none-rows, stored-row, stored-length, stored-as}
 use Rattle.notation.proofs.RowsRead.{cell-at}
-use Rattle.notation.proofs.Measures.{row-end}
+use Rattle.slices.proofs.Tables.{row-end}
 use borrow.Author.Needs.{needs}
 use Rattle.notation.proofs.filling.fill_table.Statement.{statement}
 use Rattle.notation.proofs.filling.fill_table.Tie as tie

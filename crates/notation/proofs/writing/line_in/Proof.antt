@@ -1,12 +1,12 @@
 -- `notation::writing::line_in` meets its contract. Assumes nothing.
 use mathlib.Core.Path.{_≡_, sym, _∙_}
 use mathlib.Core.List.{List}
-use Prim.Native.Nat.{ℕ, suc, _+_, _*_, _≤_, _<_}
+use Prim.Native.Nat.{ℕ, _+_, _*_, _≤_, _<_}
 use native.Mathlib.Omega.{arith}
-use native.Mathlib.Nat.{mul-le-mul, suc-mul, le-refl}
 use denote.Ref.{now}
 use lib.ListN.{length, getD}
 use borrow.Author.Tests.{eq-eqb, ne-eqb}
+use Rattle.slices.proofs.Tables.{row-end}
 use Rattle.packed.proofs.Bounds.{few-both}
 use Rattle.notation.specs.declared.Line.{Line}
 use Rattle.notation.specs.declared.Lines.{Lines}
@@ -14,9 +14,6 @@ use Rattle.notation.specs.Writing.{Writable, lineIn, AllWritable}
 use borrow.Author.Needs.{needs}
 use Rattle.notation.proofs.writing.line_in.Statement.{statement}
 use Rattle.notation.proofs.writing.line_in.Tie as tie
-
-row-end : (i m s : ℕ) → i < m → i * s + s ≤ m * s
-row-end i m s h = let l : suc i ≤ m = omega arith in omega (arith, mul-le-mul l (le-refl s), suc-mul i s)
 
 module _ (b : List ℕ) (g : Lines) (i : ℕ) (w : AllWritable b g) (h : i < g .count) where
   few : i * g .letters ≤ 1024
