@@ -5,7 +5,6 @@ use native.Mathlib.Nat.{le-refl}
 use mathlib.Core.Path.{refl}
 use lib.ListN.{length}
 use Rattle.slices.proofs.Filling.{Filling, filling-none, filling-more, filling-value}
-use borrow.Author.Needs.{needs}
 use Rattle.search.proofs.clear.Statement.{statement}
 use Rattle.search.proofs.clear.Tie as tie
 
