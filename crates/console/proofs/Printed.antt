@@ -16,9 +16,6 @@ use Rattle.console.proofs.Digits.{digits-of}
 pub shows-begun : {d old out : List ℕ} {n : ℕ} → Shows d old out n → Begun d old out
 shows-begun {d} s = begun-first (s .cells) (omega (arith, s .says, s .fits))
 
-pub shows-length : {d old out : List ℕ} {n : ℕ} → Shows d old out n → length out ≡ length old
-shows-length s = shows-begun s .same
-
 pub shows-as : {d e old out : List ℕ} {n : ℕ} → d ≡ e → Shows d old out n → Shows e old out n
 shows-as {old = old} {out = out} {n = n} p s = subst (λ (x : List ℕ). Shows x old out n) p s
 

@@ -104,12 +104,6 @@ module _ {b c : List ℕ} (A : Alike b c) where
         let k′ : k ≡ sizeOf b p * sizeOf c r = ke ∙ (λ i. s′ i * g′ i .width) in
         subst (λ (x : Beside). Progress b c q x m k) (sym g′) (subst (λ (x : Beside). Progress b c q (progressOf b c p r) x k) (sym m′) (subst (Progress b c q (progressOf b c p r) (marksOf b c p r)) (sym k′) canonical))
 
--- its rows, once they are tabulated
-pub progress-table : {b c : List ℕ} {q : ℕ} {g m : Beside} {k : ℕ} (old : List ℕ) {out : List ℕ} → Progress b c q g m k → k * g .letters ≤ length old → out ≡ written (table k (g .letters) (nextPair b c g)) old
-    → Tabulated out k (difference b c .letters) (difference b c .progress q)
-progress-table {b} {c} {q} {g} {k = k} old {out} R room e =
-    subst (λ (s : ℕ). Tabulated out k s (difference b c .progress q)) (R .letters) (subst (Tabulated out k (g .letters)) (R .next) (tabulated old (R .steps) room e))
-
 -- marks and cells for all combinations suffice
 module _ {b c : List ℕ} (A : Alike b c) {n w : ℕ} (ne : n ≡ sizesOf b c .pairs) (we : w ≡ sizesOf b c .widest) where
   some : 0 < n
