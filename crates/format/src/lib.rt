@@ -1,0 +1,24 @@
+// Formats of texts: fixed bytes and numbers, read from left to right and written, from one description.
+use slices::Refusal;
+
+// How reading goes on: at the next place, or not at all.
+pub enum Step {
+    Next(usize),
+    Refused(Refusal),
+}
+
+// The numbers that a column takes, from `low` to `limit` − 1, and the refusal of any other.
+pub struct Column {
+    pub low: usize,
+    pub limit: usize,
+    pub number: u8,
+}
+
+// The columns of a row: three, and those after them.
+pub struct Row {
+    pub first: Column,
+    pub second: Column,
+    pub third: Column,
+    pub rest: Column,
+    pub count: usize,
+}

@@ -1,0 +1,8 @@
+// Numbers in a text: one read at a place, and the digits of any written.
+use slices::Refusal;
+
+// The number at a place, with the place after it; or the refusal.
+pub enum Number {
+    Good(usize, usize),
+    Refused(Refusal),
+}
