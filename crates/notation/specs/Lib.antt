@@ -1,4 +1,4 @@
 pub mod Text
-pub mod Numerals
 pub mod Reading
 pub mod Writing
+pub mod Values
