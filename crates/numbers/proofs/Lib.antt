@@ -1,1 +1,5 @@
 pub mod Standing
+pub mod Stores
+pub mod Digits
+pub mod Runs
+pub mod Canonical

@@ -1,4 +1,7 @@
 // Numbers in a text: one read at a place, and the digits of any written.
+mod reading; // reading.rt: the number at a place
+
+pub use reading::number_at;
 use slices::Refusal;
 
 // The number at a place, with the place after it; or the refusal.
