@@ -8,7 +8,7 @@ use native.Mathlib.Omega.{arith}
 use native.Mathlib.Decide.{decLt}
 use lib.ListN.{length, length-append}
 use borrow.Author.Tests.{lt-ltb, le-ltb}
-use Rattle.numbers.specs.Digits.{digitsWithin, digitsOf}
+use Rattle.numbers.specs.Digits.{digitsWithin, digitsOf, field}
 
 within-one : (k n : ℕ) → n < 10 → digitsWithin (suc k) n ≡ (48 + n) ∷ []
 unfolding digitsWithin
@@ -57,12 +57,21 @@ length-last n h = ap length (digits-last n h) ∙ length-append (digitsOf (n / 1
 pub length-one : (n : ℕ) → n < 10 → length (digitsOf n) ≡ 1
 length-one n h = ap length (digits-one n h)
 
+pub length-field : (n e : ℕ) → length (field n e) ≡ length (digitsOf n) + 1
+length-field n e = length-append (digitsOf n) (e ∷ [])
+
 pub digits-some : (n : ℕ) → 1 ≤ length (digitsOf n)
 digits-some n = by (decLt n 10)
   where
     by : Dec (n < 10) → 1 ≤ length (digitsOf n)
     by (yes h) = omega (arith, length-one n h)
     by (no h) = omega (arith, length-last n (omega arith))
+
+pub field-some : (n e : ℕ) → 2 ≤ length (field n e)
+field-some n e = omega (arith, length-field n e, digits-some n)
+
+pub field-more : (n e : ℕ) → 10 ≤ n → 3 ≤ length (field n e)
+field-more n e h = omega (arith, length-field n e, length-last n h, digits-some (n / 10))
 
 -- k + 1 digits hold a number below that power of ten
 at-most : (k n : ℕ) → n < 10 ^ suc k → length (digitsOf n) ≤ suc k

@@ -3,3 +3,4 @@ pub mod Stores
 pub mod Digits
 pub mod Runs
 pub mod Canonical
+pub mod Backward
