@@ -1,3 +1,6 @@
 pub mod Results
 pub mod Sequences
 pub mod Inverse
+pub mod Steps
+pub mod Repeating
+pub mod Rows

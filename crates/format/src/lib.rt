@@ -1,9 +1,21 @@
 // Formats of texts: fixed bytes and numbers, read from left to right and written, from one description.
+mod reading; // reading.rt: literals, cells, rows
+
+pub use reading::read_cell;
+pub use reading::read_literal;
+pub use reading::read_row;
+pub use reading::read_rows;
 use slices::Refusal;
 
 // How reading goes on: at the next place, or not at all.
 pub enum Step {
     Next(usize),
+    Refused(Refusal),
+}
+
+// A number that is read, with the place after the byte that ends it; or the refusal.
+pub enum Cell {
+    Read(usize, usize),
     Refused(Refusal),
 }
 

@@ -1,0 +1,17 @@
+-- `format::reading::separator` meets its contract. Assumes nothing.
+use borrow.Author.Tests.{eq-eqb, ne-eqb}
+use borrow.Author.Needs.{needs}
+use Rattle.format.proofs.reading.separator.Statement.{statement}
+use Rattle.format.proofs.reading.separator.Tie as tie
+
+add-if1 : tie.Need-add-if1
+add-if1 c = search needs
+
+returns : tie.Need-returns
+returns c = rw (eq-eqb _ _ (c .if1 .taken))
+
+returns-2 : tie.Need-returns-2
+returns-2 c = rw (ne-eqb _ _ (c .if1 .left))
+
+pub separator-spec : {M : Type 1} → statement M
+separator-spec = tie.close (tie.spec add-if1 returns returns-2)
