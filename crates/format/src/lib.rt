@@ -1,10 +1,13 @@
 // Formats of texts: fixed bytes and numbers, read from left to right and written, from one description.
 mod reading; // reading.rt: literals, cells, rows
+mod writing; // writing.rt: the same, written
 
 pub use reading::read_cell;
 pub use reading::read_literal;
 pub use reading::read_row;
 pub use reading::read_rows;
+pub use writing::put_literal;
+pub use writing::put_row;
 use slices::Refusal;
 
 // How reading goes on: at the next place, or not at all.

@@ -3,6 +3,7 @@ use crate::Cell;
 use crate::Column;
 use crate::Row;
 use crate::Step;
+use crate::writing::separator;
 use numbers::Number;
 use numbers::number_at;
 use slices::Part;
@@ -14,7 +15,7 @@ ghost use mathlib.Core.List.{[], _∷_};
 ghost use Prim.Native.Nat.{_*_, _≤_, _<_};
 ghost use lib.ListN.{length};
 ghost use Rattle.format.specs.Format.{byte, done, after, reading, each, literal};
-ghost use Rattle.format.specs.Rows.{separator, columnOf, cell, row, due, numbered};
+ghost use Rattle.format.specs.Rows.{columnOf, cell, row, due, numbered};
 ghost use Rattle.format.specs.Steps.{placed, stepSays, cellSays, Reads};
 
 // The byte that is due at a place.
@@ -76,13 +77,6 @@ pub fn read_cell(text: &[u8], at: usize, column: Column, end: u8, part: Part) ->
             closed(text, v, e, end, part)
         }
     }
-}
-
-pub fn separator(count: usize, i: usize) -> u8
-    requires { ⌜ i < count ⌝ }
-    ensures { λ r. ⌜ r ≡ separator count i ⌝ }
-{
-    if i + 1 == count { 10 } else { 32 }
 }
 
 fn column_at(r: Row, i: usize) -> Column

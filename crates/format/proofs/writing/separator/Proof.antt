@@ -1,8 +1,8 @@
--- `format::reading::separator` meets its contract. Assumes nothing.
+-- `format::writing::separator` meets its contract. Assumes nothing.
 use borrow.Author.Tests.{eq-eqb, ne-eqb}
 use borrow.Author.Needs.{needs}
-use Rattle.format.proofs.reading.separator.Statement.{statement}
-use Rattle.format.proofs.reading.separator.Tie as tie
+use Rattle.format.proofs.writing.separator.Statement.{statement}
+use Rattle.format.proofs.writing.separator.Tie as tie
 
 add-if1 : tie.Need-add-if1
 add-if1 c = search needs
