@@ -69,10 +69,11 @@ pub fn number_at(text: &[u8], at: usize, part: Part) -> Number
         return Number::Refused(refuse(11, part, len));
     }
     let r = run(text, at);
+    let next = at + r;
     if is_malformed(r, text[at]) {
         return Number::Refused(refuse(11, part, at));
     }
-    Number::Good(value(text, at, r), at + r)
+    Number::Good(value(text, at, r), next)
 }
 
 // The number at a place of a text that stands alone.
