@@ -26,6 +26,10 @@ returns c = ap Refused (c .refuse .ensures) ∙ sym (number-none _ _ _ (c .befor
 run-requires : tie.Need-run-requires
 run-requires c κs = search needs
 
+add-next : tie.Need-add-next
+add-next c =
+    let s = c .before .before .before in omega (arith, run-bound (now (s .args .text)) (s .args .at) (omega (arith, c .before .if1 .left)), c .run .ensures)
+
 shared-slice-read-is-malformed : tie.Need-shared-slice-read-is-malformed
 shared-slice-read-is-malformed c = search needs
 
@@ -48,10 +52,6 @@ value-requires c κs =
     let w = well-formed (c .before .before .before .run .result) (getD t (s .args .at) 0) (sym (c .before .is-malformed .ensures) ∙ c .if2 .left) in
     ((omega (arith, run-bound t (s .args .at) (omega (arith, c .before .before .before .before .if1 .left)), e), w .0, w .1), λ i h. run-digits t (s .args .at) i (omega (arith, e)))
 
-add-t13 : tie.Need-add-t13
-add-t13 c =
-    let s = c .before .before .before .before .before .before .before in omega (arith, run-bound (now (s .args .text)) (s .args .at) (omega (arith, c .before .before .before .before .before .if1 .left)), c .before .before .before .before .run .ensures)
-
 returns-3 : tie.Need-returns-3
 returns-3 c =
     let s = c .before .before .before .before .before .before .before in
@@ -67,10 +67,10 @@ number-at-spec =
     refuse-requires
     returns
     run-requires
+    add-next
     shared-slice-read-is-malformed
     is-malformed-requires
     refuse-requires-2
     returns-2
     value-requires
-    add-t13
     returns-3)
