@@ -6,9 +6,9 @@ pub use reading::read_cell;
 pub use reading::read_literal;
 pub use reading::read_row;
 pub use reading::read_rows;
+use slices::Refusal;
 pub use writing::put_literal;
 pub use writing::put_row;
-use slices::Refusal;
 
 // How reading goes on: at the next place, or not at all.
 pub enum Step {

@@ -51,13 +51,16 @@ abbrev pub bytesIn : Result Numbers → List ℕ
 bytesIn (given v) = pack (familyOf (v .front) (v .parts))
 bytesIn (refused r) = []
 
-unfoldable pub bytesOf : List ℕ → List ℕ
-bytesOf t = bytesIn (numbersOf 3 t)
-
 abbrev pub faultIn : Result Numbers → Fault
 faultIn (given v) = sound
 faultIn (refused r) = fault r
 
 -- The text's fault, then 21 where the out slice is too short.
-abbrev pub readFault : List ℕ → ℕ → Fault
-readFault t room = faultIn (numbersOf 3 t) then when (ltb room (length (bytesOf t))) 21 Out (length (bytesOf t))
+abbrev pub packFault : Result Numbers → ℕ → Fault
+packFault x room = faultIn x then when (ltb room (length (bytesIn x))) 21 Out (length (bytesIn x))
+
+unfoldable pub bytesOf : List ℕ → List ℕ
+bytesOf t = bytesIn (numbersOf 3 t)
+
+unfoldable pub readFault : List ℕ → ℕ → Fault
+readFault t room = packFault (numbersOf 3 t) room

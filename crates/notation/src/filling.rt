@@ -13,7 +13,14 @@ ghost use Rattle.notation.specs.Reading.{familyOf};
 ghost use Rattle.notation.specs.Values.{Readable};
 
 // Numbers `stride` apart.
-fn gather(values: &[u16], at: usize, stride: usize, count: usize, out: &mut [u8], to: usize) -> usize
+fn gather(
+    values: &[u16],
+    at: usize,
+    stride: usize,
+    count: usize,
+    out: &mut [u8],
+    to: usize,
+) -> usize
     requires { ⌜ (at ≤ 65536) × (stride ≤ 40) × (count ≤ 40) × (to + count ≤ length (now out)) ⌝ }
     requires { ⌜ ((i : ℕ) → i < count → (at + i * stride < length (now values)) × (getD (now values) (at + i * stride) 0 < 256)) ⌝ }
     ensures { λ r. ⌜ Stored (now (out .entry)) to (tab count (λ i. getD (now (values .entry)) (at + i * stride) 0)) (now (out .exit)) r ⌝ }
@@ -56,10 +63,11 @@ fn fill_table(
     w
 }
 
-// The part of the progress automaton of q, whose rows begin at `at`.
+// The part of a progress automaton of k states, whose rows begin at `at`.
 fn fill_part(parts: &[u16], s: usize, k: usize, at: usize, out: &mut [u8], to: usize) -> usize
     requires { ⌜ (at ≤ 40000) × (s ≤ 32) × (k ≤ 32) × (to + k * (s + 1) ≤ length (now out)) × (at + k * (s + 3) ≤ length (now parts)) ⌝ }
-    requires { ⌜ ((p a : ℕ) → p < k → a < s + 3 → getD (now parts) (at + (p * (s + 3) + a)) 0 < 256) ⌝ }
+    requires { ⌜ ((p a : ℕ) → p < k → a < s → getD (now parts) (at + (p * (s + 3) + (3 + a))) 0 < 256) ⌝ }
+    requires { ⌜ ((p : ℕ) → p < k → getD (now parts) (at + (p * (s + 3) + 2)) 0 < 256) ⌝ }
     ensures { λ r. ⌜ Stored (now (out .entry)) to (table k s (λ p a. getD (now (parts .entry)) (at + (p * (s + 3) + (3 + a))) 0) ++ tab k (λ p. getD (now (parts .entry)) (at + (p * (s + 3) + 2)) 0)) (now (out .exit)) r ⌝ }
 {
     let w = fill_table(parts, at, 3, s, k, out, to);
