@@ -4,3 +4,4 @@ pub mod Inverse
 pub mod Steps
 pub mod Repeating
 pub mod Rows
+pub mod Fixed
