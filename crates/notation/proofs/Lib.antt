@@ -1,3 +1,4 @@
 pub mod Measures
 pub mod Gathered
 pub mod Shapes
+pub mod Texts

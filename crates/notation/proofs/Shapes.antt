@@ -27,7 +27,7 @@ pub fixed-head : (title : List ℕ) (s : ℕ) → Fixed (head title s) ((title +
 fixed-head title s = fixed-seq (fixed-seq (fixed-literal title) (fixed-literal (names s))) (fixed-literal (10 ∷ []))
 
 -- the columns of the next states
-leading-column : (s n q i : ℕ) → 2 ≤ i → columnOf (leadingRow s n q) i ≡ below n 5
+pub leading-column : (s n q i : ℕ) → 2 ≤ i → columnOf (leadingRow s n q) i ≡ below n 5
 leading-column s n q i h =
     let a : i ≡ 0 → ⊥ = λ e. omega arith in
     let b : i ≡ 1 → ⊥ = λ e. omega arith in
@@ -37,7 +37,7 @@ leading-column s n q i h =
     by true = refl
     by false = refl
 
-progress-column : (s q k p i : ℕ) → 3 ≤ i → columnOf (progressRow s q k p) i ≡ below k 5
+pub progress-column : (s q k p i : ℕ) → 3 ≤ i → columnOf (progressRow s q k p) i ≡ below k 5
 progress-column s q k p i h =
     let a : i ≡ 0 → ⊥ = λ e. omega arith in
     let b : i ≡ 1 → ⊥ = λ e. omega arith in
@@ -54,10 +54,10 @@ counts-was level c h =
     (r .count, omega (arith, a .low, a .high), b .low, omega (arith, b .high), d .low, omega (arith, d .high))
 
 -- rows of one length: an entry
-even-rows : (m w : ℕ) (f : ℕ → List ℕ) → ((q : ℕ) → q < m → length (f q) ≡ w) → length (rows m f) ≡ m * w
+pub even-rows : (m w : ℕ) (f : ℕ → List ℕ) → ((q : ℕ) → q < m → length (f q) ≡ w) → length (rows m f) ≡ m * w
 even-rows m w f e = length-rows m f ∙ (sum-same m (λ q. length (f q)) (λ q. w) e ∙ sum-even m w)
 
-even-entry : (m w : ℕ) (f : ℕ → List ℕ) → ((q : ℕ) → q < m → length (f q) ≡ w) → (q i : ℕ) → q < m → i < w → getD (rows m f) (q * w + i) 0 ≡ getD (f q) i 0
+pub even-entry : (m w : ℕ) (f : ℕ → List ℕ) → ((q : ℕ) → q < m → length (f q) ≡ w) → (q i : ℕ) → q < m → i < w → getD (rows m f) (q * w + i) 0 ≡ getD (f q) i 0
 even-entry m w f e q i h l =
     ap (λ (k : ℕ). getD (rows m f) (k + i) 0) (sym (sum-same q (λ r. length (f r)) (λ r. w) (λ r k. e r (omega arith)) ∙ sum-even q w))
     ∙ getD-rows m f q i h (subst (λ (k : ℕ). i < k) (sym (e q h)) l)
