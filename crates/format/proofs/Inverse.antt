@@ -30,7 +30,7 @@ standing t c at e =
     at-one t at c (omega (arith, ltb-true at (length t) (and-left (ltb at (length t)) (eqb (getD t at 0) c) e)))
     (ap (λ (k : ℕ). getD t k 0) z ∙ eqb-true (getD t at 0) c (and-right (ltb at (length t)) (eqb (getD t at 0) c) e))
 
-stands-there : (t x : List ℕ) (c at : ℕ) → At t at (c ∷ x) → stands t c at ≡ true
+pub stands-there : (t x : List ℕ) (c at : ℕ) → At t at (c ∷ x) → stands t c at ≡ true
 stands-there t x c at a =
     let z : at ≡ at + 0 = omega arith in
     both (ltb at (length t)) (eqb (getD t at 0) c) (lt-ltb at (length t) (omega (arith, a .within)))

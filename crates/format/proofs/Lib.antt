@@ -5,4 +5,7 @@ pub mod Steps
 pub mod Repeating
 pub mod Rows
 pub mod Fixed
+pub mod Following
 pub mod Places
+pub mod Lined
+pub mod LinesInverse

@@ -67,8 +67,8 @@ module _ (part : Part) (t : List ℕ) where
       by (Good v n) e k ih = ranged v n (number-was part t at v n e) (outside (c .low) (c .limit) v) (stands t end n) refl (ih v (n + 1)) k
 
   -- of two formats in a row, the second is refused no earlier than where the first ended
-  pub seq-refused : (f : Format) (g : List ℕ → Format) (at : ℕ) (w : Found) (r : Refusal) → at ≤ length t → reading part t f at ≡ given w → reading part t (seq f g) at ≡ refused r → From t (w .next) r
-  seq-refused f g at w r h e d =
+  pub second-refused : (f : Format) (g : List ℕ → Format) (at : ℕ) (w : Found) (r : Refusal) → at ≤ length t → reading part t f at ≡ given w → reading part t (seq f g) at ≡ refused r → From t (w .next) r
+  second-refused f g at w r h e d =
       let x = reading-was part t f at w h e in
       refused-from (g (w .values)) (w .next) r (omega (arith, x .next, x .here .within))
       (after-refused (w .values) _ (ap (λ (z : Result Found). chain z (onward part t g)) (sym e) ∙ (sym (reading-seq part t f g at) ∙ d)))
