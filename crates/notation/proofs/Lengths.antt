@@ -47,11 +47,18 @@ line-short vs h = rows-few (length vs) (λ i. field (getD vs i 0) (separator (le
     one : (v e : ℕ) → v < 1000 → length (field v e) ≤ 4
     one v e l = omega (arith, length-field v e, length-digits v l)
 
-pub counts-short : (l s n : ℕ) → l < 1000 → s < 1000 → n < 1000 → length (line (l ∷ s ∷ n ∷ [])) ≤ 12
-counts-short l s n h k j = line-short (l ∷ s ∷ n ∷ []) (few-more h (few-more k (few-more j few-none)))
+pub line-counts : (s n : ℕ) → s ≤ 32 → n ≤ 32 → length (line (3 ∷ s ∷ n ∷ [])) ≤ 12
+line-counts s n h k =
+    line-short (3 ∷ s ∷ n ∷ []) (few-more (omega arith) (few-more (omega arith) (few-more (omega arith) few-none)))
+
+pub counts-short : (s n : ℕ) → s ≤ 32 → n ≤ 32 → length (countsTitle ++ line (3 ∷ s ∷ n ∷ [])) ≤ 32
+counts-short s n h k = omega (arith, length-append countsTitle (line (3 ∷ s ∷ n ∷ [])), line-counts s n h k)
 
 pub head-length : (title : List ℕ) (s : ℕ) → length (headText title s) ≡ length title + length (names s) + 1
 head-length title s = length-append (title ++ names s) (10 ∷ []) ∙ omega (arith, length-append title (names s))
+
+pub head-short : (title : List ℕ) (s : ℕ) → s ≤ 32 → length (headText title s) ≤ length title + 119
+head-short title s h = omega (arith, head-length title s, names-few s h)
 
 -- the rows of the two automata, and all of the third block
 module _ (F : Fdfa) (P : Packable F) where

@@ -6,7 +6,7 @@ use native.Mathlib.Omega.{arith}
 use Rattle.numbers.proofs.Stores.{stored-then, stored-as}
 use Rattle.format.specs.Rows.{line}
 use Rattle.notation.specs.Text.{countsTitle}
-use Rattle.notation.proofs.Lengths.{counts-short}
+use Rattle.notation.proofs.Lengths.{line-counts}
 use borrow.Author.Needs.{needs}
 use Rattle.notation.proofs.writing.put_counts.Statement.{statement}
 use Rattle.notation.proofs.writing.put_counts.Tie as tie
@@ -35,7 +35,7 @@ put-row-requires c κs =
     omega (
       arith,
       p .put-literal .ensures .next,
-      counts-short 3 (m .narrow16 .result) (n .narrow162 .result) (omega arith) (omega (arith, m .narrow16 .ensures, s .pre)) (omega (arith, n .narrow162 .ensures, s .pre)),
+      line-counts (m .narrow16 .result) (n .narrow162 .result) (omega (arith, m .narrow16 .ensures, s .pre)) (omega (arith, n .narrow162 .ensures, s .pre)),
     )
 
 same-length : tie.Need-same-length
