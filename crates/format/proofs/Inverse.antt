@@ -24,7 +24,7 @@ use Rattle.format.specs.Format.{Format, done, byte, num, Found, after, r
 use Rattle.format.proofs.Results.{never-given, given-was, after-was}
 
 -- a byte that stands there
-standing : (t : List ℕ) (c at : ℕ) → stands t c at ≡ true → At t at (c ∷ [])
+pub standing : (t : List ℕ) (c at : ℕ) → stands t c at ≡ true → At t at (c ∷ [])
 standing t c at e =
     let z : at + 0 ≡ at = omega arith in
     at-one t at c (omega (arith, ltb-true at (length t) (and-left (ltb at (length t)) (eqb (getD t at 0) c) e)))

@@ -4,3 +4,5 @@ pub mod Inverse
 pub mod Steps
 pub mod Repeating
 pub mod Rows
+pub mod Fixed
+pub mod Places

@@ -71,10 +71,10 @@ cell-was c end [] h = absurd h
 cell-was c end (v ∷ []) h = (refl, h .0)
 cell-was c end (v ∷ (w ∷ vs)) h = absurd (h .1)
 
-rows-tab : (m : ℕ) (v : ℕ → ℕ) → rows m (λ i. v i ∷ []) ≡ tab m v
+pub rows-singles : (m : ℕ) (v : ℕ → ℕ) → rows m (λ i. v i ∷ []) ≡ tab m v
 unfolding rows tab
-rows-tab zero v = refl
-rows-tab (suc m) v = ap (λ (l : List ℕ). l ++ (v m ∷ [])) (rows-tab m v)
+rows-singles zero v = refl
+rows-singles (suc m) v = ap (λ (l : List ℕ). l ++ (v m ∷ [])) (rows-singles m v)
 
 -- The numbers of a row: as many as its columns, each taken by its own.
 pub record RowFits (r : Row) (vs : List ℕ) : Type 0 where
@@ -94,7 +94,7 @@ row-was r vs h = record { count = ap length all ∙ length-tab (r .count) v; tak
     all : vs ≡ tab (r .count) v
     all =
         s .whole
-        ∙ (rows-same (r .count) (s .part) (λ i. v i ∷ []) (λ i l. cell-was (columnOf r i) (separator (r .count) i) (s .part i) (s .fits i l) .0) ∙ rows-tab (r .count) v)
+        ∙ (rows-same (r .count) (s .part) (λ i. v i ∷ []) (λ i l. cell-was (columnOf r i) (separator (r .count) i) (s .part i) (s .fits i l) .0) ∙ rows-singles (r .count) v)
 
 module _ (r : Row) (vs : List ℕ) (h : RowFits r vs) where
   cells : (i : ℕ) → i < r .count → Fits (cell (columnOf r i) (separator (r .count) i)) (getD vs i 0 ∷ [])
@@ -102,7 +102,7 @@ module _ (r : Row) (vs : List ℕ) (h : RowFits r vs) where
   cells i l = (h .takes i l, tt)
 
   all-cells : rows (r .count) (λ i. getD vs i 0 ∷ []) ≡ vs
-  all-cells = rows-tab (r .count) (λ i. getD vs i 0) ∙ (ap (λ (m : ℕ). tab m (λ i. getD vs i 0)) (sym (h .count)) ∙ tab-getD vs)
+  all-cells = rows-singles (r .count) (λ i. getD vs i 0) ∙ (ap (λ (m : ℕ). tab m (λ i. getD vs i 0)) (sym (h .count)) ∙ tab-getD vs)
 
   pub row-is : Fits (row r) vs
   unfolding row

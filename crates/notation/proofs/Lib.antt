@@ -3,3 +3,8 @@ pub mod Gathered
 pub mod LetterNames
 pub mod Lengths
 pub mod RowValues
+pub mod Shapes
+pub mod Texts
+pub mod Families
+pub mod Laws
+pub mod SheetB

@@ -24,7 +24,7 @@ unfolding sum
 sum-none f = refl
 
 -- a factor of all
-sum-times : (m : ℕ) (f : ℕ → ℕ) (c : ℕ) → sum m (λ q. f q * c) ≡ sum m f * c
+pub sum-times : (m : ℕ) (f : ℕ → ℕ) (c : ℕ) → sum m (λ q. f q * c) ≡ sum m f * c
 unfolding sum
 sum-times zero f c = omega arith
 sum-times (suc m) f c = omega (arith, sum-times m f c, add-mul (sum m f) (f m) c)
