@@ -1,7 +1,5 @@
 -- `notation::writing::put_counts` meets its contract. Assumes nothing.
-use mathlib.Core.Path.{_≡_}
-use mathlib.Core.List.{List, [], _∷_}
-use Prim.Native.Nat.{ℕ}
+use mathlib.Core.List.{[], _∷_}
 use native.Mathlib.Omega.{arith}
 use Rattle.numbers.proofs.Stores.{stored-then, stored-as}
 use Rattle.format.specs.Rows.{line}
