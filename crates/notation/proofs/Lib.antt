@@ -1,5 +1,8 @@
 pub mod Measures
 pub mod Gathered
+pub mod LetterNames
+pub mod Lengths
+pub mod RowValues
 pub mod Shapes
 pub mod Texts
 pub mod Families
