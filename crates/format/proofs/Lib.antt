@@ -5,3 +5,4 @@ pub mod Steps
 pub mod Repeating
 pub mod Rows
 pub mod Fixed
+pub mod Following

@@ -1,0 +1,87 @@
+-- One format after another, as the code reads them: after a fixed text, and after numbers that are at the start of a slice. Assumes nothing.
+use mathlib.Core.Path.{_≡_, ap, sym, subst, _∙_}
+use mathlib.Core.List.{List, [], _++_}
+use Prim.Native.Nat.{ℕ, _+_, _-_, _≤_}
+use native.Mathlib.Omega.{arith}
+use lib.ListN.{length, take, drop, length-append}
+use borrow.Rule.Slice.PartMut.{same-len-mid}
+use Rattle.slices.specs.declared.Part.{Part}
+use Rattle.slices.specs.declared.Refusal.{Refusal}
+use Rattle.slices.specs.Refusals.{Result, given, refused}
+use Rattle.slices.specs.Filling.{written}
+use Rattle.slices.proofs.Filling.{Begun, begun-more}
+use Rattle.format.specs.declared.Step.{Step}
+use Rattle.format.specs.declared.Step.the-variants.{Next, Refused}
+use Rattle.format.specs.Format.{Format, Found, after, reading, seq}
+use Rattle.format.specs.Steps.{placed, stepSays, Reads}
+use Rattle.format.proofs.Results.{chain, after-none, after-was, never-given}
+use Rattle.format.proofs.Sequences.{onward, reading-seq}
+use Rattle.format.proofs.Inverse.{reading-was}
+use Rattle.format.proofs.Steps.{placed-refused, placed-given}
+use Rattle.format.proofs.Fixed.{Fixed}
+
+pub reads-refused : (old : List ℕ) {x : Result Found} {r : Refusal} → x ≡ refused r → Reads x old old (Refused r)
+reads-refused old e = record { says = ap placed (sym e); same = λ i. length old; cells = λ w d. absurd (never-given (sym e ∙ d)) }
+
+pub reads-as : {x y : Result Found} {old new : List ℕ} {r : Step} → x ≡ y → Reads y old new r → Reads x old new r
+reads-as {old = old} {new = new} {r = r} e h = subst (λ (z : Result Found). Reads z old new r) (sym e) h
+
+placed-after : (d : List ℕ) (x : Result Found) → placed (after d x) ≡ placed x
+placed-after d (given w) = λ i. given (w .next)
+placed-after d (refused r) = λ i. refused r
+
+module _ (part : Part) (t : List ℕ) (f : Format) (at : ℕ) where
+  pub read-within : {w : Found} → at ≤ length t → reading part t f at ≡ given w → w .next ≤ length t
+  read-within {w} h e = let r = reading-was part t f at w h e in omega (arith, r .next, r .here .within)
+
+  module _ (g : List ℕ → Format) where
+    -- a part that reads as something else
+    seq-is : {r : Result Found} → reading part t f at ≡ r → reading part t (seq f g) at ≡ chain r (onward part t g)
+    seq-is e = reading-seq part t f g at ∙ ap (λ (r : Result Found). chain r (onward part t g)) e
+
+    pub seq-refused : {x : Refusal} → reading part t f at ≡ refused x → reading part t (seq f g) at ≡ refused x
+    seq-refused e = seq-is e
+
+    pub seq-as : (k : Format) (to : ℕ) → reading part t f at ≡ reading part t k to → reading part t (seq f g) at ≡ reading part t (seq k g) to
+    seq-as k to e = seq-is e ∙ sym (reading-seq part t k g to)
+
+    -- the second is lent the slice behind the numbers of the first
+    pub seq-reads : {w : Found} {k : ℕ} {old new last : List ℕ} {r : Step} → reading part t f at ≡ given w → Begun (w .values) old new → length (w .values) ≡ k
+        → ((u : Found) → reading part t (seq f g) at ≡ given u → length (u .values) ≤ length old)
+        → Reads (reading part t (g (w .values)) (w .next)) (take (length new - k) (drop k new)) last r
+        → Reads (reading part t (seq f g) at) old (take k new ++ (last ++ drop (length new - k) (drop k new))) r
+    seq-reads {w} {k} {old} {new} {last} {r} e b l room h = record {
+      says = h .says ∙ (sym (placed-after (w .values) x) ∙ ap placed (sym whole));
+      same = same-len-mid k (length new - k) new last (h .same) ∙ b .same;
+      cells = λ u d.
+          let a = after-was (w .values) x (sym whole ∙ d) in
+          let m = room u d in
+          begun-more (a .0 .values) last b l (omega (arith, m, l, ap length (a .2), length-append (w .values) (a .0 .values))) (h .cells (a .0) (a .1)) .cells
+          ∙ ap (λ (v : List ℕ). written v old) (sym (a .2));
+    }
+      where
+        x : Result Found
+        x = reading part t (g (w .values)) (w .next)
+
+        whole : reading part t (seq f g) at ≡ after (w .values) x
+        whole = seq-is e
+
+-- A step that reads a fixed text, and what follows it.
+module _ (part : Part) (t : List ℕ) {x : List ℕ} {f : Format} (a : Fixed f x) (g : List ℕ → Format) (at : ℕ) {s : Step} (d : stepSays s ≡ placed (reading part t f at)) where
+  pub step-refused : {r : Refusal} → s ≡ Refused r → reading part t (seq f g) at ≡ refused r
+  step-refused e = seq-refused part t f at g (placed-refused (reading part t f at) (sym d ∙ ap stepSays e))
+
+  module _ {e : ℕ} (h : at ≤ length t) (n : s ≡ Next e) where
+    found : (w : Found) × (reading part t f at ≡ given w) × (w .next ≡ e)
+    found = placed-given (reading part t f at) (sym d ∙ ap stepSays n)
+
+    pub step-within : e ≤ length t
+    step-within = subst (λ (m : ℕ). m ≤ length t) (found .2) (read-within part t f at h (found .1))
+
+    pub step-given : reading part t (seq f g) at ≡ reading part t (g []) e
+    step-given =
+        seq-is part t f at g (found .1)
+        ∙ (ap (λ (l : List ℕ). after l (reading part t (g l) (found .0 .next))) none ∙ (sym (after-none (reading part t (g []) (found .0 .next))) ∙ ap (reading part t (g [])) (found .2)))
+      where
+        none : found .0 .values ≡ []
+        none = a .none (found .0 .values) (reading-was part t f at (found .0) h (found .1) .fits)
