@@ -1,25 +1,22 @@
 -- What the code may use of the front after it was read. Assumes nothing.
-use mathlib.Core.Path.{_≡_, ap, sym, _∙_}
-use mathlib.Core.List.{List}
-use Prim.Native.Nat.{ℕ, _+_, _*_, _≤_, _<_}
+use mathlib.Core.Path.{_≡_, sym, _∙_}
+use mathlib.Core.List.{List, _++_}
+use Prim.Native.Nat.{ℕ, _+_, _*_, _-_, _≤_, _<_}
 use native.Mathlib.Omega.{arith}
 use native.Mathlib.Nat.{mul-le-mul}
-use lib.ListN.{length, getD}
+use lib.ListN.{length, getD, take, drop}
 use Rattle.slices.specs.declared.Part.the-variants.{First}
 use Rattle.slices.specs.Refusals.{given}
-use Rattle.slices.specs.Filling.{written}
 use Rattle.slices.specs.Tables.{sum}
-use Rattle.slices.proofs.Tables.{getD-first}
+use Rattle.slices.proofs.Filling.{lent-length}
+use Rattle.format.specs.declared.Step.{Step}
 use Rattle.format.specs.Format.{Found, reading, Fits}
+use Rattle.format.specs.Steps.{Reads}
 use Rattle.format.proofs.Inverse.{reading-was}
-use Rattle.notation.specs.Text.{lettersIn, statesIn, sizeIn, frontFormat}
+use Rattle.format.proofs.Following.{Got, got-entry, got-then, reads-as}
+use Rattle.notation.specs.Text.{countsFormat, leadingFormat, lettersIn, statesIn, sizeIn, frontFormat}
 use Rattle.notation.proofs.Measures.{sum-few}
-use Rattle.notation.proofs.Shapes.{FrontFits, front-was}
-
--- a number at the start of a slice
-pub written-entry : (vs old : List ℕ) {new : List ℕ} → new ≡ written vs old → (i : ℕ) → i < length vs → getD new i 0 ≡ getD vs i 0
-unfolding written
-written-entry vs old e i h = ap (λ (l : List ℕ). getD l i 0) e ∙ getD-first vs _ i h
+use Rattle.notation.proofs.Shapes.{FrontFits, counts-was, front-was}
 
 pub front-found : (t : List ℕ) {u : Found} → reading First t (frontFormat 3) 0 ≡ given u → Fits (frontFormat 3) (u .values)
 front-found t {u} e = reading-was First t (frontFormat 3) 0 u (omega arith) e .fits
@@ -49,3 +46,28 @@ module _ (front : List ℕ) (h : Fits (frontFormat 3) front) where
     few-rows q l =
         let w : s + 3 ≤ 35 = omega (arith, few-letters) in
         mul-le-mul (sum-few q (sizeIn front) (omega (arith, few-states)) (λ r k. few-size r (omega arith))) w
+
+-- the front follows the counts
+module _ {t old new : List ℕ} {e : ℕ} (c : Got First t (countsFormat 3) 0 old new e) where
+  counts : (length (c .found .values) ≡ 3) × (getD (c .found .values) 0 0 ≡ 3) × (1 ≤ getD (c .found .values) 1 0) × (getD (c .found .values) 1 0 ≤ 32) × (1 ≤ getD (c .found .values) 2 0) × (getD (c .found .values) 2 0 ≤ 32)
+  counts = counts-was 3 (c .found .values) (c .fits)
+
+  count-entry : (i : ℕ) → i < 3 → getD new i 0 ≡ getD (c .found .values) i 0
+  count-entry i h = got-entry c i (omega (arith, counts .0))
+
+  module _ {s n : ℕ} (es : s ≡ getD new 1 0) (en : n ≡ getD new 2 0) where
+    pub counts-few : (s ≤ 32) × (n ≤ 32)
+    counts-few = (omega (arith, count-entry 1 (omega arith), counts .3), omega (arith, count-entry 2 (omega arith), counts .5))
+
+    pub leading-room : 1091 ≤ length old → n * (s + 2) ≤ length (take (length new - 3) (drop 3 new))
+    leading-room h =
+        let w : s + 2 ≤ 34 = omega (arith, counts-few .0) in
+        omega (arith, mul-le-mul (counts-few .1) w, lent-length {a = 3} (c .begun) (omega arith))
+
+    pub front-reads : {last : List ℕ} {r : Step} → 1091 ≤ length old → Reads (reading First t (leadingFormat s n) e) (take (length new - 3) (drop 3 new)) last r
+        → Reads (reading First t (frontFormat 3) 0) old (take 3 new ++ (last ++ drop (length new - 3) (drop 3 new))) r
+    unfolding frontFormat
+    front-reads h d =
+        got-then c (λ vs. leadingFormat (getD vs 1 0) (getD vs 2 0)) (counts .0)
+        (λ u k. let l = front-long (u .values) (front-found t k) in omega (arith, l, h))
+        (reads-as (λ i. reading First t (leadingFormat (sym (es ∙ count-entry 1 (omega arith)) i) (sym (en ∙ count-entry 2 (omega arith)) i)) e) d)

@@ -1,5 +1,5 @@
 -- `notation::reading::read_counts` meets its contract. Assumes nothing.
-use mathlib.Core.Path.{_≡_, ap, sym, _∙_}
+use mathlib.Core.Path.{_≡_, refl, ap, sym, _∙_}
 use mathlib.Core.List.{List}
 use Prim.Native.Nat.{ℕ, _≤_}
 use native.Mathlib.Omega.{arith}
@@ -49,7 +49,7 @@ read-row-requires c κs =
 returns : tie.Need-returns
 returns c =
     let b = c .before .before .before in
-    reads-refused (now (start b .args .front)) (step-refused First (text b) (fixed-literal countsTitle) counts 0 (b .read-literal .ensures) (c .before .step .given .1))
+    reads-refused refl (step-refused First (text b) (fixed-literal countsTitle) counts 0 (b .read-literal .ensures) (c .before .step .given .1))
 
 same-length : tie.Need-same-length
 same-length c = search needs

@@ -1,5 +1,5 @@
 -- `notation::reading::read_leading` meets its contract. Assumes nothing.
-use mathlib.Core.Path.{_≡_, ap, sym, _∙_}
+use mathlib.Core.Path.{_≡_, refl, ap, sym, _∙_}
 use mathlib.Core.List.{List}
 use Prim.Native.Nat.{ℕ, _*_, _≤_}
 use native.Mathlib.Omega.{arith}
@@ -52,7 +52,7 @@ returns : tie.Need-returns
 returns c =
     let b = c .before .before .before in
     let s = start b in
-    reads-refused (now (s .args .rows)) (step-refused First (text b) (fixed-head leadingTitle (s .args .s)) (table b) (s .args .at) (b .read-head .ensures) (c .before .step .given .1))
+    reads-refused refl (step-refused First (text b) (fixed-head leadingTitle (s .args .s)) (table b) (s .args .at) (b .read-head .ensures) (c .before .step .given .1))
 
 same-length : tie.Need-same-length
 same-length c = search needs

@@ -126,7 +126,7 @@ read-rows-requires c κs =
 
 -- what reading the part did
 did : (c : tie.After-read-rows Inv-loop μ-loop) → let d = c .before .before .before .before .before in let s = start d in let i = d .before .loop in
-    Reads (reading First (now (s .args .text)) (steps s (i .q)) (i .p)) (take (length (i .parts) - i .w) (drop (i .w) (i .parts))) (c .read-rows .last .1 .1 .1 .0) (c .read-rows .result)
+    Reads (reading First (now (s .args .text)) (steps s (i .q)) (i .p)) (take (length (i .parts) - i .w) (drop (i .w) (i .parts))) (c .read-rows .last .1 .1 .1 .1 .1 .0) (c .read-rows .result)
 did c =
     let k = c .before .before .before in
     let d = k .before .before in
@@ -135,10 +135,10 @@ did c =
     reads-as (part-rows (now (s .args .text)) (i .p) (s .args .s) (i .q) (sized k) (c .before .before .progress-row .ensures)) (c .read-rows .ensures)
 
 back : (c : tie.After-read-rows Inv-loop μ-loop) → let d = c .before .before .before .before .before in let i = d .before .loop in
-    length (putMid (i .w) (length (i .parts) - i .w) (i .parts) (c .read-rows .last .1 .1 .1 .0)) ≡ length (now (start d .args .parts))
+    length (putMid (i .w) (length (i .parts) - i .w) (i .parts) (c .read-rows .last .1 .1 .1 .1 .1 .0)) ≡ length (now (start d .args .parts))
 back c =
     let i = c .before .before .before .before .before .before .loop in
-    same-len-mid (i .w) (length (i .parts) - i .w) (i .parts) (c .read-rows .last .1 .1 .1 .0) (did c .same) ∙ i .inv .begun .same
+    same-len-mid (i .w) (length (i .parts) - i .w) (i .parts) (c .read-rows .last .1 .1 .1 .1 .1 .0) (did c .same) ∙ i .inv .begun .same
 
 enum-known-step : tie.Need-enum-known-step Inv-loop μ-loop
 enum-known-step c = search needs
@@ -184,7 +184,7 @@ loop-again c =
     let r = room k in
     let g = placed-given (reading First (now (s .args .text)) (steps s (i .q)) (i .p)) (sym (did b .says) ∙ ap stepSays (c .before .step2 .given .1)) in
     let long : k .wide16 .result * (s .args .s + 3) ≡ length (g .0 .values) = ap (λ (m : ℕ). m * (s .args .s + 3)) (sized k) ∙ part-long (s .args .s) (sizeIn (front s)) (s .pre .0) (i .inv) (g .1) in
-    subst (λ (e : ℕ). Partly First (now (s .args .text)) (steps s) (s .args .n) (s .args .at) (now (s .args .parts)) (putMid (i .w) (length (i .parts) - i .w) (i .parts) (b .read-rows .last .1 .1 .1 .0)) e (i .w + k .wide16 .result * (s .args .s + 3)) (i .q + 1)) (g .2) (partly-row (i .inv) (b .read-rows .last .1 .1 .1 .0) (d .loop-test .taken) (g .1) long (omega (arith, r)) (did b .cells (g .0) (g .1)))
+    subst (λ (e : ℕ). Partly First (now (s .args .text)) (steps s) (s .args .n) (s .args .at) (now (s .args .parts)) (putMid (i .w) (length (i .parts) - i .w) (i .parts) (b .read-rows .last .1 .1 .1 .1 .1 .0)) e (i .w + k .wide16 .result * (s .args .s + 3)) (i .q + 1)) (g .2) (partly-row (i .inv) (b .read-rows .last .1 .1 .1 .1 .1 .0) (d .loop-test .taken) (g .1) long (omega (arith, r)) (did b .cells (g .0) (g .1)))
 
 same-length-2 : tie.Need-same-length-2 Inv-loop μ-loop
 same-length-2 c = c .before .loop .inv .begun .same

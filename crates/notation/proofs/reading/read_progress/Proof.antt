@@ -1,5 +1,5 @@
 -- `notation::reading::read_progress` meets its contract. Assumes nothing.
-use mathlib.Core.Path.{_≡_, sym, _∙_}
+use mathlib.Core.Path.{_≡_, refl, sym, _∙_}
 use mathlib.Core.List.{List}
 use Prim.Native.Nat.{ℕ, _≤_}
 use native.Mathlib.Omega.{arith}
@@ -54,7 +54,7 @@ returns : tie.Need-returns
 returns c =
     let b = c .before .before .before in
     let s = start b in
-    reads-refused (now (s .args .parts)) (same s ∙ step-refused First (text b) (fixed-head progressTitle (s .args .s)) (parts b) (s .args .at) (b .read-head .ensures) (c .before .step .given .1))
+    reads-refused refl (same s ∙ step-refused First (text b) (fixed-head progressTitle (s .args .s)) (parts b) (s .args .at) (b .read-head .ensures) (c .before .step .given .1))
 
 same-length : tie.Need-same-length
 same-length c = search needs
