@@ -11,12 +11,13 @@ use Rattle.slices.specs.declared.Refusal.{Refusal}
 use Rattle.slices.specs.declared.Written.{Written}
 use Rattle.slices.specs.declared.Written.the-variants.{Filled, Refused}
 use Rattle.slices.specs.Refusals.{Result, given, refused, when}
-use Rattle.slices.specs.Filling.{written}
+use Rattle.slices.specs.Filling.{written, Fills}
 use Rattle.slices.proofs.Refusals.{when-fails, when-passes, failed}
 use Rattle.slices.proofs.Filling.{fill-refused, fill-given}
 use Rattle.packed.specs.Layout.{pack}
-use Rattle.format.specs.Format.{Found}
-use Rattle.notation.specs.Reading.{Numbers, ended, familyOf, bytesIn, faultIn}
+use Rattle.format.specs.Format.{Found, reading}
+use Rattle.notation.specs.Text.{frontFormat}
+use Rattle.notation.specs.Reading.{Numbers, ended, onward, numbersOf, familyOf, bytesIn, faultIn, bytesOf, readFault}
 use Rattle.notation.specs.Values.{Packs}
 
 -- after the last line feed
@@ -46,3 +47,8 @@ module _ (old front parts : List ℕ) {need : ℕ} (n : need ≡ length (pack (f
 
   pub packs-filled : {out : List ℕ} → need ≤ length old → out ≡ written (pack (familyOf front parts)) old → Packs x old out (Filled need)
   packs-filled h d = packs-as e (fill-given (pack (familyOf front parts)) ((λ i. when (ltb (length old) (sym n i)) 21 Out (sym n i)) ∙ when-passes 21 Out need (le-ltb (length old) need h)) n d)
+
+-- the whole text
+pub packs-read : (t : List ℕ) {old out : List ℕ} {r : Written} → Packs (onward t (reading First t (frontFormat 3) 0)) old out r → Fills (readFault t (length old)) (bytesOf t) old out r
+unfolding readFault bytesOf numbersOf
+packs-read t h = h

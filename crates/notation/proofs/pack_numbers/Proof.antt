@@ -15,7 +15,7 @@ use Rattle.notation.specs.Reading.{Numbers, ended, familyOf}
 use Rattle.notation.specs.Values.{Packs}
 use Rattle.notation.proofs.Measures.{bytes-length}
 use Rattle.notation.proofs.Shapes.{whole-readable}
-use Rattle.notation.proofs.FrontRead.{few-letters, few-states, front-end, few-size}
+use Rattle.notation.proofs.FrontRead.{few-letters, few-states, countable}
 use Rattle.notation.proofs.Outcomes.{ended-early, ended-there, packs-refused, packs-short, packs-filled}
 use borrow.Author.Needs.{needs}
 use Rattle.notation.proofs.pack_numbers.Statement.{statement}
@@ -73,8 +73,7 @@ add-need-2 c = omega (arith, few (c .before .before .before .before .before))
 row-count-requires : tie.Need-row-count-requires
 row-count-requires c κs =
     let s = c .before .before .before .before .before in
-    let l = few s in
-    ((s .pre .1, s .pre .2, l .0, l .1, omega (arith, front-end (front s) (s .pre .0 .first) (s .args .s) (s .args .n) (s .pre .1) (s .pre .2))), few-size (front s) (s .pre .0 .first) (s .args .s) (s .args .n) (s .pre .1) (s .pre .2))
+    countable (front s) (s .pre .0 .first) (s .args .s) (s .args .n) (s .pre .1) (s .pre .2)
 
 add-need-3 : tie.Need-add-need-3
 add-need-3 c = omega (arith, few (c .before .before .before .before .before .before))
