@@ -1,7 +1,7 @@
 -- One format after another, as the code reads them: after a fixed text, and after numbers that are at the start of a slice. Assumes nothing.
-use mathlib.Core.Path.{_≡_, ap, sym, subst, _∙_}
+use mathlib.Core.Path.{_≡_, refl, ap, sym, subst, _∙_}
 use mathlib.Core.List.{List, [], _++_}
-use Prim.Native.Nat.{ℕ, _+_, _-_, _≤_, _<_}
+use Prim.Native.Nat.{ℕ, _-_, _≤_, _<_}
 use native.Mathlib.Omega.{arith}
 use lib.ListN.{length, getD, take, drop, length-append}
 use borrow.Rule.Slice.PartMut.{same-len-mid}
@@ -28,8 +28,8 @@ pub reads-as : {x y : Result Found} {old new : List ℕ} {r : Step} → x ≡ y 
 reads-as {old = old} {new = new} {r = r} e h = subst (λ (z : Result Found). Reads z old new r) (sym e) h
 
 placed-after : (d : List ℕ) (x : Result Found) → placed (after d x) ≡ placed x
-placed-after d (given w) = λ i. given (w .next)
-placed-after d (refused r) = λ i. refused r
+placed-after d (given w) = refl
+placed-after d (refused r) = refl
 
 module _ (part : Part) (t : List ℕ) (f : Format) (at : ℕ) where
   read-within : {w : Found} → at ≤ length t → reading part t f at ≡ given w → w .next ≤ length t

@@ -19,7 +19,7 @@ use Rattle.notation.specs.Text.{countsFormat, leadingFormat, lettersIn, 
 use Rattle.notation.proofs.Measures.{sum-few}
 use Rattle.notation.proofs.Shapes.{FrontFits, counts-was, front-was}
 
-pub front-found : (t : List ℕ) {u : Found} → reading First t (frontFormat 3) 0 ≡ given u → Fits (frontFormat 3) (u .values)
+front-found : (t : List ℕ) {u : Found} → reading First t (frontFormat 3) 0 ≡ given u → Fits (frontFormat 3) (u .values)
 front-found t {u} e = reading-was First t (frontFormat 3) 0 u (omega arith) e .fits
 
 module _ (front : List ℕ) (h : Fits (frontFormat 3) front) where

@@ -1,7 +1,7 @@
 -- The third block: its rows, as a loop reads them part by part, and the whole. Assumes nothing.
 use mathlib.Core.Path.{_≡_, ap, sym, _∙_}
 use mathlib.Core.List.{List, _++_}
-use Prim.Native.Nat.{ℕ, _+_, _*_, _≤_, _<_}
+use Prim.Native.Nat.{ℕ, _+_, _*_, _≤_}
 use native.Mathlib.Omega.{arith}
 use native.Mathlib.Nat.{add-mul}
 use lib.ListN.{length, take, length-append}
@@ -32,7 +32,7 @@ module _ (s : ℕ) (size : ℕ → ℕ) where
 
   module _ {t : List ℕ} {n at : ℕ} {old new : List ℕ} {p w q : ℕ} (h : at ≤ length t) (x : Partly First t parted n at old new p w q) where
     -- where the part of q begins, and where it ends
-    pub part-begins : w ≡ sum q size * (s + 3)
+    part-begins : w ≡ sum q size * (s + 3)
     part-begins = sym (x .long) ∙ parts-long s q size (x .values) (reading-was First t (each q parted) at _ h (x .says) .fits)
 
     pub part-ends : w + size q * (s + 3) ≡ sum (q + 1) size * (s + 3)

@@ -1,11 +1,9 @@
 -- `notation::reading::read_front` meets its contract. Assumes nothing.
 use mathlib.Core.List.{List}
-use Prim.Native.Nat.{ℕ, _≤_}
-use mathlib.Core.Path.{_≡_, _∙_}
+use Prim.Native.Nat.{ℕ}
 use native.Mathlib.Omega.{arith}
 use denote.Ref.{now}
-use lib.ListN.{length, getD}
-use borrow.Rule.Slice.PartMut.{same-len-mid}
+use lib.ListN.{getD}
 use Rattle.slices.specs.declared.Part.the-variants.{First}
 use Rattle.format.proofs.Following.{Got, reads-refused, seq-refused, lost, got}
 use Rattle.notation.specs.Text.{countsFormat, leadingFormat, frontFormat}

@@ -1,11 +1,10 @@
 -- `notation::reading::read_head` meets its contract. Assumes nothing.
-use mathlib.Core.Path.{_≡_, ap, sym, _∙_}
+use mathlib.Core.Path.{ap, sym, _∙_}
 use mathlib.Core.List.{List, [], _∷_}
-use Prim.Native.Nat.{ℕ, _≤_}
+use Prim.Native.Nat.{ℕ}
 use denote.Ref.{now}
-use lib.ListN.{length}
 use Rattle.slices.specs.declared.Part.the-variants.{First}
-use Rattle.format.specs.Format.{Format, reading, seq, literal}
+use Rattle.format.specs.Format.{Format, seq, literal}
 use Rattle.format.specs.Steps.{placed}
 use Rattle.format.proofs.Fixed.{fixed-literal}
 use Rattle.format.proofs.Following.{seq-refused, seq-as, step-refused, step-within, step-given}

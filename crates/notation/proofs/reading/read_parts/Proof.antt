@@ -37,11 +37,18 @@ front s = now (s .args .front)
 abbrev steps : tie.Start Inv-loop μ-loop → ℕ → Format
 steps s = parted (s .args .s) (sizeIn (front s))
 
+few : (s : tie.Start Inv-loop μ-loop) → (s .args .s ≤ 32) × (s .args .n ≤ 32) × (3 + s .args .n * (s .args .s + 2) ≡ length (front s))
+few s = (
+  few-letters (front s) (s .pre .1) (s .args .s) (s .args .n) (s .pre .2) (s .pre .3),
+  few-states (front s) (s .pre .1) (s .args .s) (s .args .n) (s .pre .2) (s .pre .3),
+  front-end (front s) (s .pre .1) (s .args .s) (s .args .n) (s .pre .2) (s .pre .3),
+)
+
 -- where the size is read
 place : (d : tie.In-loop Inv-loop μ-loop) → let s = start d in let q = d .before .loop .q in (q * (s .args .s + 2) ≤ 1088) × (3 + q * (s .args .s + 2) + 1 < length (front s))
 place d =
     let s = start d in
-    size-place (front s) (s .args .s) (d .before .loop .q) (s .args .n) (d .loop-test .taken) (few-states (front s) (s .pre .1) (s .args .s) (s .args .n) (s .pre .2) (s .pre .3)) (few-letters (front s) (s .pre .1) (s .args .s) (s .args .n) (s .pre .2) (s .pre .3)) (omega (arith, front-end (front s) (s .pre .1) (s .args .s) (s .args .n) (s .pre .2) (s .pre .3)))
+    size-place (front s) (s .args .s) (d .before .loop .q) (s .args .n) (d .loop-test .taken) (few s .1) (few s .0) (omega (arith, few s .2))
 
 sized : (c : tie.After-wide16 Inv-loop μ-loop) → let d = c .before .before in c .wide16 .result ≡ sizeIn (front (start d)) (d .before .loop .q)
 sized c =
@@ -74,7 +81,7 @@ loop-holds c = partly-none _ _ _ _ _ _ (c .before .before .before .pre .0)
 
 add-wide16 : tie.Need-add-wide16 Inv-loop μ-loop
 add-wide16 c =
-    let s = start c in omega (arith, few-letters (front s) (s .pre .1) (s .args .s) (s .args .n) (s .pre .2) (s .pre .3))
+    let s = start c in omega (arith, few s .0)
 
 mul-wide16 : tie.Need-mul-wide16 Inv-loop μ-loop
 mul-wide16 c = omega (arith, place c)
@@ -98,8 +105,7 @@ progress-row-requires : tie.Need-progress-row-requires Inv-loop μ-loop
 progress-row-requires c κs =
     let d = c .before .before in
     let s = start d in
-    let n = few-states (front s) (s .pre .1) (s .args .s) (s .args .n) (s .pre .2) (s .pre .3) in
-    (few-letters (front s) (s .pre .1) (s .args .s) (s .args .n) (s .pre .2) (s .pre .3), omega (arith, d .loop-test .taken))
+    (few s .0, omega (arith, few s .1, d .loop-test .taken))
 
 mul-read-rows : tie.Need-mul-read-rows Inv-loop μ-loop
 mul-read-rows c =
@@ -160,7 +166,7 @@ enum-known-step-2 c = search needs
 add-w : tie.Need-add-w Inv-loop μ-loop
 add-w c =
     let s = start (c .before .before .before .before .before .before .before .before .before .before) in
-    omega (arith, few-letters (front s) (s .pre .1) (s .args .s) (s .args .n) (s .pre .2) (s .pre .3))
+    omega (arith, few s .0)
 
 mul-w : tie.Need-mul-w Inv-loop μ-loop
 mul-w c = omega (arith, room (c .before .before .before .before .before .before .before .before))

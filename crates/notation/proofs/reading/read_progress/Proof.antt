@@ -1,15 +1,14 @@
 -- `notation::reading::read_progress` meets its contract. Assumes nothing.
 use mathlib.Core.Path.{_≡_, refl, sym, _∙_}
 use mathlib.Core.List.{List}
-use Prim.Native.Nat.{ℕ, _≤_}
+use Prim.Native.Nat.{ℕ}
 use native.Mathlib.Omega.{arith}
 use denote.Ref.{now}
-use lib.ListN.{length}
 use Rattle.slices.specs.declared.Part.the-variants.{First}
 use Rattle.format.specs.Format.{Format, reading, each}
 use Rattle.format.proofs.Following.{reads-refused, reads-as, step-refused, step-within, step-given}
 use Rattle.notation.specs.Text.{progressTitle, partFormat, progressFormat, sizeIn, partsFormat}
-use Rattle.notation.proofs.Shapes.{FrontFits, fixed-head, front-was}
+use Rattle.notation.proofs.Shapes.{fixed-head, front-was}
 use borrow.Author.Needs.{needs}
 use Rattle.notation.proofs.reading.read_progress.Statement.{statement}
 use Rattle.notation.proofs.reading.read_progress.Tie as tie
