@@ -2,6 +2,7 @@
 mod names; // names.rt: the names of the letters
 mod reading; // reading.rt: the numbers of a text
 mod filling; // filling.rt: the packed sheet of a text's numbers
+mod writing; // writing.rt: the text of a sheet
 
 use filling::fill;
 use filling::row_count;
@@ -24,6 +25,26 @@ ghost use Rattle.notation.specs.Text.{lettersIn, statesIn, frontFormat, 
 ghost use Rattle.notation.specs.Reading.{Numbers, ended, bytesOf, readFault};
 ghost use Rattle.notation.specs.Writing.{writeFault};
 ghost use Rattle.notation.specs.Values.{Packs, Whole};
+
+// Writes the text of a packed sheet into the out slice, from its start.
+pub fn write(sheet: &[u8], out: &mut [u8]) -> Written
+    ensures { λ r. ⌜ Fills (writeFault (now (sheet .entry)) (length (now (out .entry)))) (textOf (now (sheet .entry))) (now (out .entry)) (now (out .exit)) r ⌝ }
+{
+    let validity = packed::check(sheet, Part::First);
+    match validity {
+        Validity::Refused(r) => Written::Refused(r),
+        Validity::Valid(sizes) => {
+            let s = sizes.letters;
+            let n = sizes.states;
+            let need = writing::put_sheet(sheet, s, n, &mut out[..0]);
+            if out.len() < need {
+                return Written::Refused(refuse(21, Part::Out, need));
+            }
+            writing::put_sheet(sheet, s, n, out);
+            Written::Filled(need)
+        }
+    }
+}
 
 // The packed sheet of numbers that are all read, if nothing follows.
 fn pack_numbers(

@@ -51,7 +51,7 @@ need c =
 -- nothing follows
 there : (c : tie.Else1) → let s = c .before .before .before .before .before in answer s ≡ given (record { front = front s; parts = parts s })
 there c =
-    let s = c .before .before .before .before .before in ended-there (now (s .args .text)) (front s) (parts s) (s .args .at) (c .if1 .left)
+    let s = c .before .before .before .before .before in ended-there (now (s .args .text)) (front s) (parts s) (s .args .at) (omega (arith, c .if1 .left))
 
 refuse-requires : tie.Need-refuse-requires
 refuse-requires c κs = search needs
