@@ -24,13 +24,13 @@ use Rattle.format.specs.Format.{Format, done, byte, num, Found, after, r
 use Rattle.format.proofs.Results.{never-given, given-was, after-was}
 
 -- a byte that stands there
-standing : (t : List ℕ) (c at : ℕ) → stands t c at ≡ true → At t at (c ∷ [])
+pub standing : (t : List ℕ) (c at : ℕ) → stands t c at ≡ true → At t at (c ∷ [])
 standing t c at e =
     let z : at + 0 ≡ at = omega arith in
     at-one t at c (omega (arith, ltb-true at (length t) (and-left (ltb at (length t)) (eqb (getD t at 0) c) e)))
     (ap (λ (k : ℕ). getD t k 0) z ∙ eqb-true (getD t at 0) c (and-right (ltb at (length t)) (eqb (getD t at 0) c) e))
 
-stands-there : (t x : List ℕ) (c at : ℕ) → At t at (c ∷ x) → stands t c at ≡ true
+pub stands-there : (t x : List ℕ) (c at : ℕ) → At t at (c ∷ x) → stands t c at ≡ true
 stands-there t x c at a =
     let z : at ≡ at + 0 = omega arith in
     both (ltb at (length t)) (eqb (getD t at 0) c) (lt-ltb at (length t) (omega (arith, a .within)))

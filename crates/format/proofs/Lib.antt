@@ -6,3 +6,6 @@ pub mod Repeating
 pub mod Rows
 pub mod Fixed
 pub mod Following
+pub mod Places
+pub mod Lined
+pub mod LinesInverse

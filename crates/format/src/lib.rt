@@ -1,7 +1,9 @@
 // Formats of texts: fixed bytes and numbers, read from left to right and written, from one description.
 mod reading; // reading.rt: literals, cells, rows
+mod labelled; // labelled.rt: lines of a word and a number, as many as there are
 mod writing; // writing.rt: the same, written
 
+pub use labelled::read_lines;
 pub use reading::read_cell;
 pub use reading::read_literal;
 pub use reading::read_row;
@@ -19,6 +21,12 @@ pub enum Step {
 // A number that is read, with the place after the byte that ends it; or the refusal.
 pub enum Cell {
     Read(usize, usize),
+    Refused(Refusal),
+}
+
+// How many lines were read, with the place after them; or the refusal.
+pub enum Lines {
+    Counted(usize, usize),
     Refused(Refusal),
 }
 

@@ -1,8 +1,13 @@
 pub mod Measures
 pub mod Gathered
+pub mod LetterNames
+pub mod Lengths
+pub mod RowValues
 pub mod Shapes
 pub mod Texts
-pub mod LetterNames
 pub mod FrontRead
 pub mod PartsRead
 pub mod Outcomes
+pub mod Families
+pub mod Laws
+pub mod SheetB

@@ -1,5 +1,5 @@
 -- What numbers that fit the format of a sheet's text are: a sheet's. Assumes nothing.
-use mathlib.Core.Path.{_≡_, refl, ap, sym, subst, _∙_}
+use mathlib.Core.Path.{_≡_, refl, ap, ap₂, sym, subst, _∙_}
 use mathlib.Core.Bool.{Bool, true, false, cond}
 use mathlib.Core.List.{List, [], _∷_, _++_}
 use Prim.Native.Nat.{ℕ, zero, suc, _+_, _*_, _≤_, _<_}
@@ -7,9 +7,10 @@ use native.Mathlib.Omega.{arith}
 use native.Mathlib.Nat.{add-mul}
 use lib.Dec.{eqb}
 use lib.ListN.{length, getD, length-append}
+use lib.Seq.{ext-getD}
 use borrow.Author.Tests.{ne-eqb}
 use Rattle.slices.specs.Tables.{tab, rows, sum}
-use Rattle.slices.proofs.Tables.{getD-first, getD-second, getD-rows, length-rows, sum-same, sum-even, row-end}
+use Rattle.slices.proofs.Tables.{getD-first, getD-second, getD-rows, rows-same, length-rows, sum-same, sum-even, row-end}
 use Rattle.packed.specs.Layout.{Packable}
 use Rattle.format.specs.declared.Column.{Column}
 use Rattle.format.specs.declared.Row.{Row}
@@ -73,11 +74,19 @@ module _ (s n : ℕ) (l : List ℕ) (h : Fits (each n (λ q. row (leadingRow s n
   leading-long : length l ≡ n * (s + 2)
   leading-long = ap length (leading-rows .whole) ∙ even-rows n (s + 2) (leading-rows .part) (λ q k. leading-row q k .count)
 
+  leading-entry : (q i : ℕ) → q < n → i < s + 2 → getD l (q * (s + 2) + i) 0 ≡ getD (leading-rows .part q) i 0
+  leading-entry q i k m = ap (λ (x : List ℕ). getD x (q * (s + 2) + i) 0) (leading-rows .whole) ∙ even-entry n (s + 2) (leading-rows .part) (λ r j. leading-row r j .count) q i k m
+
   leading-takes : (q i : ℕ) → q < n → i < s + 2 → Takes (columnOf (leadingRow s n q) i) (separator (s + 2) i) (getD l (q * (s + 2) + i) 0)
   leading-takes q i k m =
-      subst (Takes (columnOf (leadingRow s n q) i) (separator (s + 2) i))
-      (sym (ap (λ (x : List ℕ). getD x (q * (s + 2) + i) 0) (leading-rows .whole) ∙ even-entry n (s + 2) (leading-rows .part) (λ r j. leading-row r j .count) q i k m))
-      (leading-row q k .takes i m)
+      subst (Takes (columnOf (leadingRow s n q) i) (separator (s + 2) i)) (sym (leading-entry q i k m)) (leading-row q k .takes i m)
+
+  -- the rows are those whose entries stand there
+  pub leading-is : (v : ℕ → List ℕ) → ((q : ℕ) → q < n → length (v q) ≡ s + 2) → ((q i : ℕ) → q < n → i < s + 2 → getD l (q * (s + 2) + i) 0 ≡ getD (v q) i 0) → l ≡ rows n v
+  leading-is v long e =
+      leading-rows .whole
+      ∙ rows-same n (leading-rows .part) v
+      (λ q k. ext-getD 0 (leading-rows .part q) (v q) (leading-row q k .count ∙ sym (long q k)) (λ i m. sym (leading-entry q i k (omega (arith, leading-row q k .count))) ∙ e q i k (omega (arith, leading-row q k .count))))
 
 -- The numbers of the first two blocks.
 pub record FrontFits (level : ℕ) (front : List ℕ) : Type 0 where
@@ -92,52 +101,80 @@ pub record FrontFits (level : ℕ) (front : List ℕ) : Type 0 where
   pub few-size : (q : ℕ) → q < statesIn front → sizeIn front q ≤ 32
   pub steps : (q a : ℕ) → q < statesIn front → a < lettersIn front → leadingIn front q (2 + a) < statesIn front
 
-pub front-was : (level : ℕ) (front : List ℕ) → Fits (frontFormat level) front → FrontFits level front
-unfolding frontFormat
-front-was level front h = record {
-  level-is = first 0 (omega arith) ∙ counts .1;
-  some-letters = omega (arith, letters, counts);
-  few-letters = omega (arith, letters, counts);
-  some-states = omega (arith, states, counts);
-  few-states = omega (arith, states, counts);
-  long = ap length (w .whole) ∙ (length-append (w .left) (w .right) ∙ omega (arith, counts .0, leading-long s n (w .right) rest));
-  turns = λ q k. let t = takes q 0 k (omega arith) in omega (arith, t .low, t .high);
-  some-size = λ q k. takes q 1 k (omega arith) .low;
-  few-size = λ q k. let t : sizeIn front q < 33 = takes q 1 k (omega arith) .high in omega arith;
-  steps = λ q a k m. subst (λ (c : Column). leadingIn front q (2 + a) < c .limit) (leading-column s n q (2 + a) (omega arith)) (takes q (2 + a) k (omega arith) .high);
-}
+module _ (level : ℕ) (front : List ℕ) (h : Fits (frontFormat level) front) where
+  w : Split (countsFormat level) (λ c. leadingFormat (getD c 1 0) (getD c 2 0)) front
+  unfolding frontFormat
+  w = split (countsFormat level) (λ c. leadingFormat (getD c 1 0) (getD c 2 0)) front h
+
+  counts : (length (w .left) ≡ 3) × (getD (w .left) 0 0 ≡ level) × (1 ≤ getD (w .left) 1 0) × (getD (w .left) 1 0 ≤ 32) × (1 ≤ getD (w .left) 2 0) × (getD (w .left) 2 0 ≤ 32)
+  counts = counts-was level (w .left) (w .first)
+
+  count : (i : ℕ) → i < 3 → getD front i 0 ≡ getD (w .left) i 0
+  count i l = ap (λ (x : List ℕ). getD x i 0) (w .whole) ∙ getD-first (w .left) (w .right) i (omega (arith, counts .0))
+
+  abbrev s : ℕ
+  s = lettersIn front
+
+  abbrev n : ℕ
+  n = statesIn front
+
+  letters : s ≡ getD (w .left) 1 0
+  letters = count 1 (omega arith)
+
+  states : n ≡ getD (w .left) 2 0
+  states = count 2 (omega arith)
+
+  rest : Fits (each n (λ q. row (leadingRow s n q))) (w .right)
+  rest =
+      then-was (fixed-head leadingTitle s) (λ vs. each n (λ q. row (leadingRow s n q))) (w .right)
+      (subst (λ (x : ℕ). Fits (leadingFormat x n) (w .right)) (sym letters) (subst (λ (y : ℕ). Fits (leadingFormat (getD (w .left) 1 0) y) (w .right)) (sym states) (w .second)))
+
+  behind : (k : ℕ) → getD front (3 + k) 0 ≡ getD (w .right) k 0
+  behind k = ap (λ (x : List ℕ). getD x (3 + k) 0) (w .whole) ∙ getD-second (w .left) (w .right) 3 k (counts .0)
+
+  takes : (q i : ℕ) → q < n → i < s + 2 → Takes (columnOf (leadingRow s n q) i) (separator (s + 2) i) (leadingIn front q i)
+  takes q i k m = subst (Takes (columnOf (leadingRow s n q) i) (separator (s + 2) i)) (sym (behind (q * (s + 2) + i))) (leading-takes s n (w .right) rest q i k m)
+
+  pub front-was : FrontFits level front
+  front-was = record {
+    level-is = count 0 (omega arith) ∙ counts .1;
+    some-letters = omega (arith, letters, counts);
+    few-letters = omega (arith, letters, counts);
+    some-states = omega (arith, states, counts);
+    few-states = omega (arith, states, counts);
+    long = ap length (w .whole) ∙ (length-append (w .left) (w .right) ∙ omega (arith, counts .0, leading-long s n (w .right) rest));
+    turns = λ q k. let t = takes q 0 k (omega arith) in omega (arith, t .low, t .high);
+    some-size = λ q k. takes q 1 k (omega arith) .low;
+    few-size = λ q k. let t : sizeIn front q < 33 = takes q 1 k (omega arith) .high in omega arith;
+    steps = λ q a k m. subst (λ (c : Column). leadingIn front q (2 + a) < c .limit) (leading-column s n q (2 + a) (omega arith)) (takes q (2 + a) k (omega arith) .high);
+  }
+
+  -- they are the counts and the rows whose entries stand there
+  pub front-are : (v : ℕ → List ℕ) → ((q : ℕ) → q < n → length (v q) ≡ s + 2) → ((q i : ℕ) → q < n → i < s + 2 → leadingIn front q i ≡ getD (v q) i 0) → front ≡ (level ∷ s ∷ n ∷ []) ++ rows n v
+  front-are v long e = w .whole ∙ ap₂ (λ (x y : List ℕ). x ++ y) left (leading-is s n (w .right) rest v long (λ q i k m. sym (behind (q * (s + 2) + i)) ∙ e q i k m))
+    where
+      by : (i : ℕ) → i < 3 → getD (w .left) i 0 ≡ getD (level ∷ s ∷ n ∷ []) i 0
+      by zero l = counts .1
+      by (suc zero) l = sym letters
+      by (suc (suc zero)) l = sym states
+      by (suc (suc (suc i))) l = absurd (omega arith)
+
+      left : w .left ≡ level ∷ s ∷ n ∷ []
+      left = ext-getD 0 (w .left) (level ∷ s ∷ n ∷ []) (counts .0) (λ i l. by i (omega (arith, counts .0)))
+
+-- rows of rows of one length: an entry of a row
+pub nested-entry : (n w : ℕ) (size : ℕ → ℕ) (g : ℕ → List ℕ) → ((q : ℕ) → q < n → length (g q) ≡ size q * w) → (q p i : ℕ) → q < n → p < size q → i < w
+    → getD (rows n g) ((sum q size + p) * w + i) 0 ≡ getD (g q) (p * w + i) 0
+nested-entry n w size g long q p i k j m = ap (λ (x : ℕ). getD (rows n g) x 0) place ∙ getD-rows n g q (p * w + i) k within
   where
-    w : Split (countsFormat level) (λ c. leadingFormat (getD c 1 0) (getD c 2 0)) front
-    w = split (countsFormat level) (λ c. leadingFormat (getD c 1 0) (getD c 2 0)) front h
+    begins : sum q (λ r. length (g r)) ≡ sum q size * w
+    begins = sum-same q (λ r. length (g r)) (λ r. size r * w) (λ r l. long r (omega arith)) ∙ sum-times q size w
 
-    counts : (length (w .left) ≡ 3) × (getD (w .left) 0 0 ≡ level) × (1 ≤ getD (w .left) 1 0) × (getD (w .left) 1 0 ≤ 32) × (1 ≤ getD (w .left) 2 0) × (getD (w .left) 2 0 ≤ 32)
-    counts = counts-was level (w .left) (w .first)
+    place : (sum q size + p) * w + i ≡ sum q (λ r. length (g r)) + (p * w + i)
+    place = omega (arith, begins, add-mul (sum q size) p w)
 
-    first : (i : ℕ) → i < 3 → getD front i 0 ≡ getD (w .left) i 0
-    first i l = ap (λ (x : List ℕ). getD x i 0) (w .whole) ∙ getD-first (w .left) (w .right) i (omega (arith, counts .0))
-
-    s : ℕ
-    s = lettersIn front
-
-    n : ℕ
-    n = statesIn front
-
-    letters : s ≡ getD (w .left) 1 0
-    letters = first 1 (omega arith)
-
-    states : n ≡ getD (w .left) 2 0
-    states = first 2 (omega arith)
-
-    rest : Fits (each n (λ q. row (leadingRow s n q))) (w .right)
-    rest =
-        then-was (fixed-head leadingTitle s) (λ vs. each n (λ q. row (leadingRow s n q))) (w .right)
-        (subst (λ (x : ℕ). Fits (leadingFormat x n) (w .right)) (sym letters) (subst (λ (y : ℕ). Fits (leadingFormat (getD (w .left) 1 0) y) (w .right)) (sym states) (w .second)))
-
-    takes : (q i : ℕ) → q < n → i < s + 2 → Takes (columnOf (leadingRow s n q) i) (separator (s + 2) i) (leadingIn front q i)
-    takes q i k m =
-        subst (Takes (columnOf (leadingRow s n q) i) (separator (s + 2) i))
-        (sym (ap (λ (x : List ℕ). getD x (3 + (q * (s + 2) + i)) 0) (w .whole) ∙ getD-second (w .left) (w .right) 3 (q * (s + 2) + i) (counts .0)))
-        (leading-takes s n (w .right) rest q i k m)
+    within : p * w + i < length (g q)
+    within = omega (arith, long q k, row-end p (size q) w j)
 
 -- the progress rows
 module _ (s n : ℕ) (size : ℕ → ℕ) (vs : List ℕ) (h : Fits (each n (λ q. partFormat s (size q) q)) vs) where
@@ -158,35 +195,36 @@ module _ (s n : ℕ) (size : ℕ → ℕ) (vs : List ℕ) (h : Fits (each n (λ 
       ap length (parts .whole)
       ∙ (length-rows n (parts .part) ∙ (sum-same n (λ q. length (parts .part q)) (λ q. size q * (s + 3)) part-long ∙ sum-times n size (s + 3)))
 
+  part-entry : (q p i : ℕ) (k : q < n) → p < size q → i < s + 3 → getD vs ((sum q size + p) * (s + 3) + i) 0 ≡ getD (part-rows q k .part p) i 0
+  part-entry q p i k j m =
+      ap (λ (x : List ℕ). getD x ((sum q size + p) * (s + 3) + i) 0) (parts .whole)
+      ∙ (nested-entry n (s + 3) size (parts .part) part-long q p i k j m
+      ∙ (ap (λ (x : List ℕ). getD x (p * (s + 3) + i) 0) (part-rows q k .whole) ∙ even-entry (size q) (s + 3) (part-rows q k .part) (λ r l. part-row q r k l .count) p i j m))
+
   pub parts-take : (q p i : ℕ) → q < n → p < size q → i < s + 3 → Takes (columnOf (progressRow s q (size q) p) i) (separator (s + 3) i) (getD vs ((sum q size + p) * (s + 3) + i) 0)
-  parts-take q p i k j m = subst (Takes (columnOf (progressRow s q (size q) p) i) (separator (s + 3) i)) (sym entry) (part-row q p k j .takes i m)
-    where
-      begins : sum q (λ r. length (parts .part r)) ≡ sum q size * (s + 3)
-      begins = sum-same q (λ r. length (parts .part r)) (λ r. size r * (s + 3)) (λ r l. part-long r (omega arith)) ∙ sum-times q size (s + 3)
+  parts-take q p i k j m = subst (Takes (columnOf (progressRow s q (size q) p) i) (separator (s + 3) i)) (sym (part-entry q p i k j m)) (part-row q p k j .takes i m)
 
-      place : (sum q size + p) * (s + 3) + i ≡ sum q (λ r. length (parts .part r)) + (p * (s + 3) + i)
-      place = omega (arith, begins, add-mul (sum q size) p (s + 3))
-
-      within : p * (s + 3) + i < length (parts .part q)
-      within = omega (arith, part-long q k, row-end p (size q) (s + 3) j)
-
-      entry : getD vs ((sum q size + p) * (s + 3) + i) 0 ≡ getD (part-rows q k .part p) i 0
-      entry =
-          (λ x. getD (parts .whole x) (place x) 0)
-          ∙ (getD-rows n (parts .part) q (p * (s + 3) + i) k within
-          ∙ (ap (λ (x : List ℕ). getD x (p * (s + 3) + i) 0) (part-rows q k .whole) ∙ even-entry (size q) (s + 3) (part-rows q k .part) (λ r l. part-row q r k l .count) p i j m))
+  pub parts-are : (v : ℕ → ℕ → List ℕ) → ((q p : ℕ) → q < n → p < size q → length (v q p) ≡ s + 3)
+      → ((q p i : ℕ) → q < n → p < size q → i < s + 3 → getD vs ((sum q size + p) * (s + 3) + i) 0 ≡ getD (v q p) i 0) → vs ≡ rows n (λ q. rows (size q) (v q))
+  parts-are v long e =
+      parts .whole
+      ∙ rows-same n (parts .part) (λ q. rows (size q) (v q))
+      (λ q k. part-rows q k .whole
+      ∙ rows-same (size q) (part-rows q k .part) (v q)
+      (λ p j. ext-getD 0 (part-rows q k .part p) (v q p) (part-row q p k j .count ∙ sym (long q p k j))
+      (λ i m. sym (part-entry q p i k j (omega (arith, part-row q p k j .count))) ∙ e q p i k j (omega (arith, part-row q p k j .count)))))
 
 -- numbers that fit are a sheet's
 module _ (front parts : List ℕ) (w : Whole front parts) where
   first : FrontFits 3 front
   first = front-was 3 front (w .first)
 
-  third : Fits (each (statesIn front) (λ q. partFormat (lettersIn front) (sizeIn front q) q)) parts
+  pub rows-fit : Fits (each (statesIn front) (λ q. partFormat (lettersIn front) (sizeIn front q) q)) parts
   unfolding partsFormat
-  third = then-was (fixed-head progressTitle (lettersIn front)) (λ vs. each (statesIn front) (λ q. partFormat (lettersIn front) (sizeIn front q) q)) parts (w .second)
+  rows-fit = then-was (fixed-head progressTitle (lettersIn front)) (λ vs. each (statesIn front) (λ q. partFormat (lettersIn front) (sizeIn front q) q)) parts (w .second)
 
   pub progress-takes : (q p i : ℕ) → q < statesIn front → p < sizeIn front q → i < lettersIn front + 3 → Takes (columnOf (progressRow (lettersIn front) q (sizeIn front q) p) i) (separator (lettersIn front + 3) i) (progressIn front parts q p i)
-  progress-takes = parts-take (lettersIn front) (statesIn front) (sizeIn front) parts third
+  progress-takes = parts-take (lettersIn front) (statesIn front) (sizeIn front) parts rows-fit
 
   pub whole-readable : Readable front parts
   whole-readable = record {
@@ -204,5 +242,5 @@ module _ (front parts : List ℕ) (w : Whole front parts) where
     };
     marks = λ q p h k. progress-takes q p 2 h k (omega arith) .high;
     front-length = first .long;
-    parts-length = parts-long (lettersIn front) (statesIn front) (sizeIn front) parts third;
+    parts-length = parts-long (lettersIn front) (statesIn front) (sizeIn front) parts rows-fit;
   }

@@ -53,7 +53,7 @@ module _ (level : ℕ) (small : level < 1000) (F : Fdfa) (P : Packable F) where
       by (suc (suc zero)) h = takes _ 3 2 n (P .complete .start) (omega (arith, P .few-states)) (omega (arith, P .few-states))
       by (suc (suc (suc i))) h = absurd (omega arith)
 
-  leading-fit : (q : ℕ) → q < n → RowFits (leadingRow s n q) (leadingValues F q)
+  pub leading-fit : (q : ℕ) → q < n → RowFits (leadingRow s n q) (leadingValues F q)
   leading-fit q h = record { count = ap (λ (m : ℕ). suc (suc m)) (length-tab s (F .step q)) ∙ omega arith; takes = by }
     where
       by : (i : ℕ) → i < s + 2 → Takes (columnOf (leadingRow s n q) i) (separator (s + 2) i) (getD (leadingValues F q) i 0)
@@ -65,7 +65,7 @@ module _ (level : ℕ) (small : level < 1000) (F : Fdfa) (P : Packable F) where
           subst (λ (c : Column). Takes c (separator (s + 2) (suc (suc a))) (getD (leadingValues F q) (suc (suc a)) 0)) (sym (leading-column s n q (suc (suc a)) (omega arith)))
           (takes _ (s + 2) (suc (suc a)) (getD (tab s (F .step q)) a 0) (omega arith) (omega (arith, e)) (omega (arith, e, P .few-states)))
 
-  progress-fit : (q p : ℕ) → q < n → p < F .size q → RowFits (progressRow s q (F .size q) p) (progressValues F q p)
+  pub progress-fit : (q p : ℕ) → q < n → p < F .size q → RowFits (progressRow s q (F .size q) p) (progressValues F q p)
   progress-fit q p h k = record { count = ap (λ (m : ℕ). suc (suc (suc m))) (length-tab s (F .progress q p)) ∙ omega arith; takes = by }
     where
       by : (i : ℕ) → i < s + 3 → Takes (columnOf (progressRow s q (F .size q) p) i) (separator (s + 3) i) (getD (progressValues F q p) i 0)

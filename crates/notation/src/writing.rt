@@ -4,28 +4,34 @@ use crate::names::names_len;
 use format::put_literal;
 use format::put_row;
 use slices::narrow16;
-use slices::wide;
 ghost use mathlib.Core.Path.{_≡_};
 ghost use mathlib.Core.List.{_∷_, [], _++_};
 ghost use Prim.Native.Nat.{_+_, _*_, _≤_, _<_};
-ghost use lib.ListN.{length, take, drop};
+ghost use lib.ListN.{length, getD};
 ghost use lib.Seq.{sets};
 ghost use Rattle.slices.specs.Filling.{written};
-ghost use Rattle.slices.specs.Tables.{rows};
+ghost use Rattle.slices.specs.Tables.{tab, rows};
 ghost use Rattle.packed.specs.Layout.{letterCount, stateCount, sizeOf, progressAt, decode, Valid};
 ghost use Rattle.numbers.specs.Storing.{Stored};
 ghost use Rattle.format.specs.Rows.{line};
 ghost use Rattle.notation.specs.Text.{countsTitle, leadingValues, progressValues};
 ghost use Rattle.notation.specs.Lines.{headText, partText, linesOf};
 
+// A byte as a number of a row.
+fn number(x: u8) -> u16
+    ensures { λ r. ⌜ r ≡ x ⌝ }
+{
+    x as u16
+}
+
 // Next states of a row, as numbers, from cell `head` of the row on.
 fn put_nexts(sheet: &[u8], from: usize, s: usize, head: usize, row: &mut [u16])
     requires { ⌜ (from + s ≤ length (now sheet)) × (head ≤ 3) × (s ≤ 32) × (head + s ≤ length (now row)) ⌝ }
-    ensures { λ _. ⌜ now (row .exit) ≡ sets (now (row .entry)) head (take s (drop from (now (sheet .entry)))) ⌝ }
+    ensures { λ _. ⌜ now (row .exit) ≡ sets (now (row .entry)) head (tab s (λ a. getD (now (sheet .entry)) (from + a) 0)) ⌝ }
 {
     let mut a = 0;
     while a < s {
-        row[head + a] = narrow16(wide(sheet[from + a]));
+        row[head + a] = number(sheet[from + a]);
         a += 1;
     }
 }
@@ -36,7 +42,7 @@ fn leading_values(sheet: &[u8], s: usize, n: usize, q: usize, row: &mut [u16])
     ensures { λ _. ⌜ now (row .exit) ≡ written (leadingValues (decode (now (sheet .entry))) q) (now (row .entry)) ⌝ }
 {
     row[0] = narrow16(q);
-    row[1] = narrow16(wide(sheet[2 + q]));
+    row[1] = number(sheet[2 + q]);
     put_nexts(sheet, 2 + n + q * s, s, 2, row);
 }
 
@@ -55,7 +61,7 @@ fn progress_values(
 {
     row[0] = narrow16(q);
     row[1] = narrow16(p);
-    row[2] = narrow16(wide(sheet[from + k * s + p]));
+    row[2] = number(sheet[from + k * s + p]);
     put_nexts(sheet, from + p * s, s, 3, row);
 }
 

@@ -105,3 +105,13 @@ row-at t p (suc m) f a i h = by (decLt i m) (row-at t p m f (at-left t p (rows m
     by : Dec (i < m) → (i < m → At t (p + length (rows i f)) (f i)) → At t (p + length (rows i f)) (f i)
     by (yes l) ih = ih l
     by (no l) ih = let e : m ≡ i = omega arith in subst (λ (k : ℕ). At t (p + length (rows k f)) (f k)) e (at-right t p (rows m f) (f m) a)
+
+-- the first of some rows
+pub front-at : (t : List ℕ) (p m : ℕ) (f : ℕ → List ℕ) → At t p (rows m f) → (j : ℕ) → j ≤ m → At t p (rows j f)
+unfolding rows
+front-at t p zero f a j h = let e : 0 ≡ j = omega arith in subst (λ (k : ℕ). At t p (rows k f)) e a
+front-at t p (suc m) f a j h = by (decLt j (suc m)) (front-at t p m f (at-left t p (rows m f) (f m) a) j)
+  where
+    by : Dec (j < suc m) → (j ≤ m → At t p (rows j f)) → At t p (rows j f)
+    by (yes l) ih = ih (omega arith)
+    by (no l) ih = let e : suc m ≡ j = omega arith in subst (λ (k : ℕ). At t p (rows k f)) e a
