@@ -1,18 +1,19 @@
 -- One format after another, as the code reads them: after a fixed text, and after numbers that are at the start of a slice. Assumes nothing.
-use mathlib.Core.Path.{_≡_, ap, sym, subst, _∙_}
+use mathlib.Core.Path.{_≡_, refl, ap, sym, subst, _∙_}
 use mathlib.Core.List.{List, [], _++_}
-use Prim.Native.Nat.{ℕ, _+_, _-_, _≤_}
+use Prim.Native.Nat.{ℕ, _-_, _≤_, _<_}
 use native.Mathlib.Omega.{arith}
-use lib.ListN.{length, take, drop, length-append}
+use lib.ListN.{length, getD, take, drop, length-append}
 use borrow.Rule.Slice.PartMut.{same-len-mid}
 use Rattle.slices.specs.declared.Part.{Part}
 use Rattle.slices.specs.declared.Refusal.{Refusal}
 use Rattle.slices.specs.Refusals.{Result, given, refused}
 use Rattle.slices.specs.Filling.{written}
-use Rattle.slices.proofs.Filling.{Begun, begun-more}
+use Rattle.slices.proofs.Tables.{getD-first}
+use Rattle.slices.proofs.Filling.{Begun, begun-more, written-front}
 use Rattle.format.specs.declared.Step.{Step}
 use Rattle.format.specs.declared.Step.the-variants.{Next, Refused}
-use Rattle.format.specs.Format.{Format, Found, after, reading, seq}
+use Rattle.format.specs.Format.{Format, Found, after, reading, Fits, seq}
 use Rattle.format.specs.Steps.{placed, stepSays, Reads}
 use Rattle.format.proofs.Results.{chain, after-none, after-was, never-given}
 use Rattle.format.proofs.Sequences.{onward, reading-seq}
@@ -20,18 +21,18 @@ use Rattle.format.proofs.Inverse.{reading-was}
 use Rattle.format.proofs.Steps.{placed-refused, placed-given}
 use Rattle.format.proofs.Fixed.{Fixed}
 
-pub reads-refused : (old : List ℕ) {x : Result Found} {r : Refusal} → x ≡ refused r → Reads x old old (Refused r)
-reads-refused old e = record { says = ap placed (sym e); same = λ i. length old; cells = λ w d. absurd (never-given (sym e ∙ d)) }
+pub reads-refused : {old new : List ℕ} {x : Result Found} {r : Refusal} → length new ≡ length old → x ≡ refused r → Reads x old new (Refused r)
+reads-refused l e = record { says = ap placed (sym e); same = l; cells = λ w d. absurd (never-given (sym e ∙ d)) }
 
 pub reads-as : {x y : Result Found} {old new : List ℕ} {r : Step} → x ≡ y → Reads y old new r → Reads x old new r
 reads-as {old = old} {new = new} {r = r} e h = subst (λ (z : Result Found). Reads z old new r) (sym e) h
 
 placed-after : (d : List ℕ) (x : Result Found) → placed (after d x) ≡ placed x
-placed-after d (given w) = λ i. given (w .next)
-placed-after d (refused r) = λ i. refused r
+placed-after d (given w) = refl
+placed-after d (refused r) = refl
 
 module _ (part : Part) (t : List ℕ) (f : Format) (at : ℕ) where
-  pub read-within : {w : Found} → at ≤ length t → reading part t f at ≡ given w → w .next ≤ length t
+  read-within : {w : Found} → at ≤ length t → reading part t f at ≡ given w → w .next ≤ length t
   read-within {w} h e = let r = reading-was part t f at w h e in omega (arith, r .next, r .here .within)
 
   module _ (g : List ℕ → Format) where
@@ -44,27 +45,6 @@ module _ (part : Part) (t : List ℕ) (f : Format) (at : ℕ) where
 
     pub seq-as : (k : Format) (to : ℕ) → reading part t f at ≡ reading part t k to → reading part t (seq f g) at ≡ reading part t (seq k g) to
     seq-as k to e = seq-is e ∙ sym (reading-seq part t k g to)
-
-    -- the second is lent the slice behind the numbers of the first
-    pub seq-reads : {w : Found} {k : ℕ} {old new last : List ℕ} {r : Step} → reading part t f at ≡ given w → Begun (w .values) old new → length (w .values) ≡ k
-        → ((u : Found) → reading part t (seq f g) at ≡ given u → length (u .values) ≤ length old)
-        → Reads (reading part t (g (w .values)) (w .next)) (take (length new - k) (drop k new)) last r
-        → Reads (reading part t (seq f g) at) old (take k new ++ (last ++ drop (length new - k) (drop k new))) r
-    seq-reads {w} {k} {old} {new} {last} {r} e b l room h = record {
-      says = h .says ∙ (sym (placed-after (w .values) x) ∙ ap placed (sym whole));
-      same = same-len-mid k (length new - k) new last (h .same) ∙ b .same;
-      cells = λ u d.
-          let a = after-was (w .values) x (sym whole ∙ d) in
-          let m = room u d in
-          begun-more (a .0 .values) last b l (omega (arith, m, l, ap length (a .2), length-append (w .values) (a .0 .values))) (h .cells (a .0) (a .1)) .cells
-          ∙ ap (λ (v : List ℕ). written v old) (sym (a .2));
-    }
-      where
-        x : Result Found
-        x = reading part t (g (w .values)) (w .next)
-
-        whole : reading part t (seq f g) at ≡ after (w .values) x
-        whole = seq-is e
 
 -- A step that reads a fixed text, and what follows it.
 module _ (part : Part) (t : List ℕ) {x : List ℕ} {f : Format} (a : Fixed f x) (g : List ℕ → Format) (at : ℕ) {s : Step} (d : stepSays s ≡ placed (reading part t f at)) where
@@ -85,3 +65,60 @@ module _ (part : Part) (t : List ℕ) {x : List ℕ} {f : Format} (a : Fixed f x
       where
         none : found .0 .values ≡ []
         none = a .none (found .0 .values) (reading-was part t f at (found .0) h (found .1) .fits)
+
+-- Numbers that were read to the start of a slice, up to the place e.
+pub record Got (part : Part) (t : List ℕ) (f : Format) (at : ℕ) (old new : List ℕ) (e : ℕ) : Type 0 where
+  pub found : Found
+  pub says : reading part t f at ≡ given found
+  pub next : found .next ≡ e
+  pub fits : Fits f (found .values)
+  pub begun : Begun (found .values) old new
+  pub inside : e ≤ length t
+
+module _ (part : Part) (t : List ℕ) (f : Format) (at : ℕ) {old new : List ℕ} {r : Step} (d : Reads (reading part t f at) old new r) where
+  pub lost : {x : Refusal} → r ≡ Refused x → reading part t f at ≡ refused x
+  lost e = placed-refused (reading part t f at) (sym (d .says) ∙ ap stepSays e)
+
+  pub got : {e : ℕ} → at ≤ length t → r ≡ Next e → Got part t f at old new e
+  got h n =
+      let g = placed-given (reading part t f at) (sym (d .says) ∙ ap stepSays n) in
+      record {
+        found = g .0;
+        says = g .1;
+        next = g .2;
+        fits = reading-was part t f at (g .0) h (g .1) .fits;
+        begun = record { cells = d .cells (g .0) (g .1); same = d .same };
+        inside = subst (λ (m : ℕ). m ≤ length t) (g .2) (read-within part t f at h (g .1));
+      }
+
+module _ {part : Part} {t : List ℕ} {f : Format} {at : ℕ} {old new : List ℕ} {e : ℕ} (g : Got part t f at old new e) where
+  pub got-entry : (i : ℕ) → i < length (g .found .values) → getD new i 0 ≡ getD (g .found .values) i 0
+  unfolding written
+  got-entry i h = ap (λ (l : List ℕ). getD l i 0) (g .begun .cells) ∙ getD-first (g .found .values) _ i h
+
+  pub got-all : {n : ℕ} → n ≡ length (g .found .values) → take n new ≡ g .found .values
+  got-all {n} h = ap (take n) (g .begun .cells) ∙ written-front (g .found .values) old (sym h)
+
+-- after numbers at the start of a slice, the second is lent the rest of it
+module _ {part : Part} {t : List ℕ} {f : Format} {at : ℕ} {old new : List ℕ} {e k : ℕ} (w : Got part t f at old new e) (g : List ℕ → Format) (l : length (w .found .values) ≡ k) where
+  abbrev vs : List ℕ
+  vs = w .found .values
+
+  pub got-then : {last : List ℕ} {r : Step} → ((u : Found) → reading part t (seq f g) at ≡ given u → length (u .values) ≤ length old)
+      → Reads (reading part t (g (w .found .values)) e) (take (length new - k) (drop k new)) last r
+      → Reads (reading part t (seq f g) at) old (take k new ++ (last ++ drop (length new - k) (drop k new))) r
+  got-then {last} {r} room h = record {
+    says = h .says ∙ (sym (placed-after vs x) ∙ ap placed (sym whole));
+    same = same-len-mid k (length new - k) new last (h .same) ∙ w .begun .same;
+    cells = λ u d.
+        let a = after-was vs x (sym whole ∙ d) in
+        let m = room u d in
+        begun-more (a .0 .values) last (w .begun) l (omega (arith, m, l, ap length (a .2), length-append vs (a .0 .values))) (h .cells (a .0) (a .1)) .cells
+        ∙ ap (λ (v : List ℕ). written v old) (sym (a .2));
+  }
+    where
+      x : Result Found
+      x = reading part t (g vs) e
+
+      whole : reading part t (seq f g) at ≡ after vs x
+      whole = seq-is part t f at g (w .says) ∙ ap (λ (n : ℕ). after vs (reading part t (g vs) n)) (w .next)

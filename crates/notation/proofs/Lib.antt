@@ -5,6 +5,9 @@ pub mod Lengths
 pub mod RowValues
 pub mod Shapes
 pub mod Texts
+pub mod FrontRead
+pub mod PartsRead
+pub mod Outcomes
 pub mod Families
 pub mod Laws
 pub mod SheetB

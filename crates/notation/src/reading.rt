@@ -112,7 +112,7 @@ fn progress_row(s: usize, q: usize, k: usize) -> Row
 
 // The names of the letters and a line feed.
 fn read_names(text: &[u8], at: usize, s: usize) -> Step
-    requires { ⌜ s ≤ 32 ⌝ }
+    requires { ⌜ (at ≤ length (now text)) × (s ≤ 32) ⌝ }
     ensures { λ r. ⌜ stepSays r ≡ placed (reading First (now (text .entry)) (seq (literal (names s)) (λ vs. literal (10 ∷ []))) at) ⌝ }
 {
     let step = read_literal(text, at, &NAMES[..names_len(s)], Part::First);
@@ -124,7 +124,7 @@ fn read_names(text: &[u8], at: usize, s: usize) -> Step
 
 // A line of names: a title, then the names of the letters.
 fn read_head(text: &[u8], at: usize, title: &[u8], s: usize) -> Step
-    requires { ⌜ s ≤ 32 ⌝ }
+    requires { ⌜ (at ≤ length (now text)) × (s ≤ 32) ⌝ }
     ensures { λ r. ⌜ stepSays r ≡ placed (reading First (now (text .entry)) (head (now (title .entry)) s) at) ⌝ }
 {
     let step = read_literal(text, at, title, Part::First);
