@@ -1,17 +1,18 @@
 -- Texts made in a lent slice, one after the other. Assumes nothing.
 use mathlib.Core.Path.{_≡_, ap, sym, subst, _∙_}
-use mathlib.Core.List.{List, [], _∷_, _++_, append-assoc}
-use Prim.Native.Nat.{ℕ, _+_, _-_, _≤_}
+use mathlib.Core.List.{List, _++_, append-assoc}
+use Prim.Native.Nat.{ℕ, _+_, _-_, _≤_, _<_}
 use native.Mathlib.Omega.{arith}
-use lib.ListN.{length, take, drop, set, length-append}
+use lib.ListN.{length, take, drop, length-append}
 use Rattle.slices.specs.declared.Part.{Part}
 use Rattle.slices.specs.declared.Part.the-variants.{First, Second, Opening, Loop, Out, Work, Cursor}
 use Rattle.slices.specs.declared.Refusal.{Refusal}
-use Rattle.io.specs.Digits.{digits, Fewest}
-use Rattle.slices.specs.Filling.{written}
-use Rattle.slices.proofs.Filling.{Begun, begun-first, begun-more, begun-cell, lent-length}
-use Rattle.console.specs.Printed.{field, partField, refusalTitle, refusalText, Shows}
-use Rattle.console.proofs.Digits.{digits-of}
+use Rattle.slices.proofs.Filling.{Begun, begun-first, begun-more, lent-length}
+use Rattle.numbers.specs.Digits.{field}
+use Rattle.numbers.specs.Storing.{Stored}
+use Rattle.numbers.proofs.Digits.{length-field, digits-few}
+use Rattle.numbers.proofs.Stores.{stored-written}
+use Rattle.console.specs.Printed.{partField, refusalTitle, refusalText, Shows}
 
 pub shows-begun : {d old out : List ℕ} {n : ℕ} → Shows d old out n → Begun d old out
 shows-begun {d} s = begun-first (s .cells) (omega (arith, s .says, s .fits))
@@ -32,16 +33,10 @@ shows-more {d} {old} {out} chunk last {a} {k} s t = record {
     room = omega (arith, t .fits, s .fits, lent-length {a = a} (shows-begun s) (s .fits))
 
 -- a number's digits and the byte after them
-pub number-shown : (n end k : ℕ) (buffer : List ℕ) {old mid : List ℕ} → Fewest 10 1 n k → take k buffer ≡ digits 10 k n → length (take k buffer) ≡ k
-    → k + 1 ≤ length old → mid ≡ written (take k buffer) old → Shows (field n end) old (set mid k end) (k + 1)
-number-shown n end k buffer {old} {mid} f e l h c = record {
-  says = omega (arith, l, ap length same, length-append (take k buffer) (end ∷ []));
-  fits = h;
-  cells = begun-cell end (begun-first {d = take k buffer} c (omega arith)) l (omega arith) .cells ∙ ap (λ (d : List ℕ). written d old) same;
-}
-  where
-    same : take k buffer ++ (end ∷ []) ≡ field n end
-    same = ap (λ (d : List ℕ). d ++ (end ∷ [])) (e ∙ digits-of k n f)
+pub number-shown : (n end : ℕ) {old out : List ℕ} {r : ℕ} → n < 18446744073709551616 → 21 ≤ length old → Stored old 0 (field n end) out r → Shows (field n end) old out r × (r ≤ 21)
+number-shown n end {old} h l s =
+    let few : length (field n end) ≤ 21 = omega (arith, length-field n end, digits-few n h) in
+    (record { says = omega (arith, s .next); fits = omega (arith, s .next); cells = stored-written s (omega arith) }, omega (arith, s .next))
 
 -- a part's name
 part-length : (q : Part) → length (partField q) ≤ 8

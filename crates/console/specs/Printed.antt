@@ -1,27 +1,13 @@
 -- What a program prints, as bytes (01): numbers in the digits they need, and refusals. Assumes nothing.
 use mathlib.Core.Path.{_≡_}
-use mathlib.Core.Bool.{cond}
 use mathlib.Core.List.{List, [], _∷_, _++_}
-use Prim.Native.Nat.{ℕ, zero, suc, _+_, _/_, _%_, _≤_}
-use lib.Dec.{ltb}
+use Prim.Native.Nat.{ℕ, _≤_}
 use lib.ListN.{length}
 use Rattle.slices.specs.declared.Part.{Part}
 use Rattle.slices.specs.declared.Part.the-variants.{First, Second, Opening, Loop, Out, Work, Cursor}
 use Rattle.slices.specs.declared.Refusal.{Refusal}
 use Rattle.slices.specs.Filling.{written}
-
--- The decimal digits of n as ASCII, the last of them after those of n / 10; at most k of them.
-unfoldable pub digitsWithin : ℕ → ℕ → List ℕ
-digitsWithin zero n = []
-digitsWithin (suc k) n = cond (ltb n 10) ((48 + n) ∷ []) (digitsWithin k (n / 10) ++ ((48 + n % 10) ∷ []))
-
--- As many as it needs: n has at most n + 1.
-unfoldable pub digitsOf : ℕ → List ℕ
-digitsOf n = digitsWithin (suc n) n
-
--- A number and the byte that ends its field.
-abbrev pub field : ℕ → ℕ → List ℕ
-field n end = digitsOf n ++ (end ∷ [])
+use Rattle.numbers.specs.Digits.{field}
 
 -- "first", "second", "opening", "loop", "out", "work", "cursor"
 abbrev pub partName : Part → List ℕ

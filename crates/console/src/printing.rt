@@ -1,12 +1,16 @@
 // What the programs print: texts made in a lent slice, and written to standard output.
+use numbers::put_field;
 use slices::Part;
 use slices::Refusal;
 use slices::copy;
 use slices::wide;
 ghost use Prim.Native.Nat.{_≤_};
 ghost use lib.ListN.{length};
-ghost use Rattle.console.specs.Printed.{field, partField, refusalText, Shows};
+ghost use Rattle.numbers.specs.Digits.{field};
+ghost use Rattle.console.specs.Printed.{partField, refusalText, Shows};
 
+// Room for a number: 20 digits, and the byte that ends it.
+const NUMBER: usize = 21;
 // Room for a refusal: its line of names, 19 bytes, two numbers and a name.
 const REFUSAL: usize = 80;
 
@@ -29,19 +33,14 @@ pub fn put_number(n: usize, end: u8, out: &mut [u8]) -> usize
     requires { ⌜ 21 ≤ length (now out) ⌝ }
     ensures { λ r. ⌜ Shows (field n end) (now (out .entry)) (now (out .exit)) r × (r ≤ 21) ⌝ }
 {
-    let mut digits = [0u8; 20];
-    let k = io::decimal(n as u64, &mut digits);
-    copy(&digits[..k], out);
-    out[k] = end;
-    k + 1
+    put_field(n, end, out, 0)
 }
 
 // The same, printed.
 pub fn print_number(n: usize, end: u8) {
-    let mut digits = [0u8; 20];
-    let k = io::decimal(n as u64, &mut digits);
-    print(&digits[..k]);
-    print(&[end]);
+    let mut text = [0u8; NUMBER];
+    let k = put_number(n, end, &mut text);
+    print(&text[..k]);
 }
 
 // A part's name and a space.
