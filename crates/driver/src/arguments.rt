@@ -1,19 +1,25 @@
-// The arguments of a line, by their kinds: `a`, `b`, `c`, `d` are slices of bytes, each put into the lent slice of that name, `w`
+// The arguments of a line, by their kinds: `i` is a slice of bytes that the call only reads, `x` and `y` one that is lent to it, `w`
 // one of 64-bit cells, `n` a number, `p` a cursor's part.
 use crate::call_cursor::part_in;
-use crate::cells::bytes_in;
-use crate::cells::cells_in;
-use crate::words::Word;
-use crate::words::number_in;
-use crate::words::piece;
-use crate::words::pieces;
+use crate::forms::kind_of;
+use crate::forms::words_of;
+use lines::cells::Width;
+use lines::parts::between;
+use lines::reading::slice_in;
+use lines::words::Word;
+use lines::words::number_in;
+use lines::words::piece;
 
-// How many cells each slice has, the number and the part; and whether all are good.
+// The longest slice of bytes.
+pub const LONGEST: usize = 300000;
+
+// What is given: the slices that are only read lie one behind the other in one slice, the k-th from ends[k] up to ends[k + 1]. Of the lent
+// ones, how many cells each has; one that the line does not have is lent whole.
 pub struct Given {
-    pub a: usize,
-    pub b: usize,
-    pub c: usize,
-    pub d: usize,
+    ends: [usize; 5],
+    count: usize,
+    pub x: usize,
+    pub y: usize,
     pub w: usize,
     pub n: usize,
     pub p: usize,
@@ -22,10 +28,10 @@ pub struct Given {
 
 fn nothing() -> Given {
     Given {
-        a: 0,
-        b: 0,
-        c: 0,
-        d: 0,
+        ends: [0; 5],
+        count: 0,
+        x: LONGEST,
+        y: 0,
         w: 0,
         n: 0,
         p: 0,
@@ -34,85 +40,107 @@ fn nothing() -> Given {
 }
 
 impl Given {
-    fn with(mut self, kind: u8, x: usize) -> Given {
-        match kind {
-            b'a' => self.a = x,
-            b'b' => self.b = x,
-            b'c' => self.c = x,
-            b'd' => self.d = x,
-            b'w' => self.w = x,
-            b'n' => self.n = x,
-            _ => self.p = x,
+    // Where the next slice that is only read begins.
+    fn end(self) -> usize {
+        let k = self.count;
+        let ends = self.ends;
+        if k < 5 { ends[k] } else { 0 }
+    }
+
+    fn input(mut self, end: usize) -> Given {
+        let k = self.count;
+        if k < 4 {
+            self.ends[k + 1] = end;
+            self.count = k + 1;
         }
         self
     }
 
-    fn bad(mut self) -> Given {
-        self.is_good = false;
+    fn good(mut self, kind: u8, v: usize) -> Given {
+        match kind {
+            b'i' => return self.input(v),
+            b'x' => self.x = v,
+            b'y' => self.y = v,
+            b'w' => self.w = v,
+            b'n' => self.n = v,
+            _ => self.p = v,
+        }
         self
+    }
+
+    fn with(mut self, kind: u8, found: Word) -> Given {
+        let Word::Good(v) = found else {
+            self.is_good = false;
+            return self;
+        };
+        self.good(kind, v)
     }
 }
 
-// The first byte of a word: the kind of an argument.
-fn kind_in(word: &[u8]) -> u8 {
-    if 0 < word.len() { word[0] } else { 0 }
+// The k-th of the slices that are only read.
+pub fn input(inputs: &[u8], g: Given, k: usize) -> &[u8] {
+    let ends = g.ends;
+    if k < 4 {
+        return between(inputs, ends[k], ends[k + 1]);
+    }
+    between(inputs, 0, 0)
 }
 
-// Reads an argument into the slice that its kind names.
+// Reads a slice behind the others; where it ends.
+fn read_input(word: &[u8], inputs: &mut [u8], from: usize, w: &mut [u64]) -> Word {
+    if inputs.len() < from {
+        return Word::Bad;
+    }
+    if inputs.len() - from < LONGEST {
+        return Word::Bad;
+    }
+    let to = from + LONGEST;
+    let found = slice_in(word, Width::Byte, &mut inputs[from..to], w);
+    let Word::Good(n) = found else {
+        return Word::Bad;
+    };
+    if LONGEST < n {
+        return Word::Bad;
+    }
+    Word::Good(from + n)
+}
+
+// Reads an argument to where its kind says.
 fn read(
     kind: u8,
     word: &[u8],
-    a: &mut [u8],
-    b: &mut [u8],
-    c: &mut [u8],
-    d: &mut [u8],
+    from: usize,
+    inputs: &mut [u8],
+    x: &mut [u8],
+    y: &mut [u8],
     w: &mut [u64],
 ) -> Word {
     match kind {
-        b'a' => bytes_in(word, a),
-        b'b' => bytes_in(word, b),
-        b'c' => bytes_in(word, c),
-        b'd' => bytes_in(word, d),
-        b'w' => cells_in(word, w),
+        b'i' => read_input(word, inputs, from, w),
+        b'x' => slice_in(word, Width::Byte, x, w),
+        b'y' => slice_in(word, Width::Byte, y, w),
+        b'w' => slice_in(word, Width::Long, x, w),
         b'n' => number_in(word),
         _ => part_in(word),
     }
 }
 
-// Adds an argument to those that are given.
-fn add(
-    given: Given,
-    kind: u8,
-    word: &[u8],
-    a: &mut [u8],
-    b: &mut [u8],
-    c: &mut [u8],
-    d: &mut [u8],
-    w: &mut [u64],
-) -> Given {
-    let found = read(kind, word, a, b, c, d, w);
-    match found {
-        Word::Good(x) => given.with(kind, x),
-        Word::Bad => given.bad(),
-    }
-}
-
-// All arguments of a line, by a form: the call's name and the arguments' kinds.
+// All arguments of a line that makes a call.
 pub fn read_all(
-    form: &[u8],
+    call: usize,
     line: &[u8],
-    a: &mut [u8],
-    b: &mut [u8],
-    c: &mut [u8],
-    d: &mut [u8],
+    inputs: &mut [u8],
+    x: &mut [u8],
+    y: &mut [u8],
     w: &mut [u64],
 ) -> Given {
     let mut given = nothing();
-    let count = pieces(form, b' ');
+    let count = words_of(call);
     let mut k = 1;
     while k < count {
-        let kind = kind_in(piece(form, b' ', k));
-        given = add(given, kind, piece(line, b' ', k), a, b, c, d, w);
+        let kind = kind_of(call, k);
+        let found = read(kind, piece(line, b' ', k), given.end(), inputs, x, y, w);
+        given = given.with(kind, found);
         k += 1;
     }
     given

@@ -1,18 +1,20 @@
-// The cursor: start, step, rest.
-use crate::answers::put_one;
-use crate::printing::put_bytes;
-use crate::printing::put_refusal;
-use crate::printing::put_text;
-use crate::words::Word;
+// The cursor: start, step, rest. A part is given by the number of its word.
+use crate::replies::CURSOR;
+use crate::replies::LOOP;
+use crate::replies::OPENING;
+use crate::replies::PASSED;
+use crate::replies::REST;
+use crate::replies::Reply;
+use crate::replies::refused;
+use crate::replies::say;
 use cursor::Cursor;
 use cursor::Phase;
 use cursor::Step;
+use lines::words::Word;
+use slices::copy;
+use slices::wide;
 
-const OPENING: usize = 0;
-
-const LOOP: usize = 1;
-
-// The part that a word names, as a number.
+// The part that a word names.
 pub fn part_in(word: &[u8]) -> Word {
     if check::same(word, b"opening") {
         return Word::Good(OPENING);
@@ -37,52 +39,39 @@ fn cursor_at(part: usize, at: usize) -> Cursor {
     }
 }
 
-fn put_cursor(out: &mut [u8], n: usize, c: Cursor) -> usize {
+// A cursor after what is said already.
+fn with(r: Reply, c: Cursor) -> Reply {
     let part = c.phase;
     match part {
-        Phase::Prefix => put_one(out, n, b" opening", c.at),
-        Phase::Period => put_one(out, n, b" loop", c.at),
+        Phase::Prefix => r.word(OPENING).number(c.at),
+        Phase::Period => r.word(LOOP).number(c.at),
     }
 }
 
-pub fn start(opening: &[u8], out: &mut [u8], n: usize) -> usize {
-    let to = put_text(out, n, b"cursor");
-    put_cursor(out, to, cursor::start(opening))
+pub fn start(opening: &[u8]) -> Reply {
+    with(say(CURSOR), cursor::start(opening))
 }
 
-fn put_step(s: Step, out: &mut [u8], n: usize) -> usize {
-    match s {
-        Step::Passed(x, c) => {
-            let to = put_one(out, n, b"passed", slices::wide(x));
-            put_cursor(out, to, c)
-        }
-        Step::Refused(r, c) => {
-            let to = put_refusal(out, n, r);
-            let named = put_text(out, to, b" cursor");
-            put_cursor(out, named, c)
-        }
+pub fn step(part: usize, at: usize, opening: &[u8], period: &[u8]) -> Reply {
+    let answer = cursor_at(part, at).step(opening, period);
+    match answer {
+        Step::Passed(x, c) => with(say(PASSED).number(wide(x)), c),
+        Step::Refused(r, c) => with(refused(r).word(CURSOR), c),
     }
 }
 
-pub fn step(
-    part: usize,
-    at: usize,
-    opening: &[u8],
-    period: &[u8],
-    out: &mut [u8],
-    n: usize,
-) -> usize {
-    put_step(cursor_at(part, at).step(opening, period), out, n)
-}
-
+// The slice that is handed back is shown from `room`.
 pub fn rest<'a>(
     part: usize,
     at: usize,
     opening: &'a [u8],
     period: &'a [u8],
-    out: &mut [u8],
-    n: usize,
-) -> usize {
-    let to = put_text(out, n, b"rest ");
-    put_bytes(out, to, cursor::rest(cursor_at(part, at), opening, period))
+    room: &mut [u8],
+) -> Reply {
+    let back = cursor::rest(cursor_at(part, at), opening, period);
+    if room.len() < back.len() {
+        return say(REST);
+    }
+    copy(back, room);
+    say(REST).shows(back.len())
 }

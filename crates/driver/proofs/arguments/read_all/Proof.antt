@@ -7,31 +7,34 @@ use Rattle.driver.proofs.arguments.read_all.Statement.{statement}
 use Rattle.driver.proofs.arguments.read_all.Tie as tie
 
 abbrev Inv-loop : tie.InvT-loop
-Inv-loop form line a₀ b₀ c₀ d₀ w₀ given₀ count k₀ a b c d w given k = (count < 2 ^ 64) × (length a ≡ length a₀) × (length b ≡ length b₀) × (length c ≡ length c₀) × (length d ≡ length d₀) × (length w ≡ length w₀)
+Inv-loop call line inputs₀ x₀ y₀ w₀ given₀ count k₀ inputs x y w given k = (count < 2 ^ 64) × (length inputs ≡ length inputs₀) × (length x ≡ length x₀) × (length y ≡ length y₀) × (length w ≡ length w₀)
 
 abbrev μ-loop : tie.MeasureT-loop
-μ-loop form line a₀ b₀ c₀ d₀ w₀ given₀ count k₀ a b c d w given k = count - k
+μ-loop call line inputs₀ x₀ y₀ w₀ given₀ count k₀ inputs x y w given k = count - k
 
 nothing-requires : tie.Need-nothing-requires Inv-loop μ-loop
 nothing-requires c κs = search needs
 
-pieces-requires : tie.Need-pieces-requires Inv-loop μ-loop
-pieces-requires c κs = search needs
+words-of-requires : tie.Need-words-of-requires Inv-loop μ-loop
+words-of-requires c κs = search needs
 
 loop-holds : tie.Need-loop-holds Inv-loop μ-loop
 loop-holds c = search needs
 
+kind-of-requires : tie.Need-kind-of-requires Inv-loop μ-loop
+kind-of-requires c κs = search needs
+
 piece-requires : tie.Need-piece-requires Inv-loop μ-loop
 piece-requires c κs = search needs
 
-kind-in-requires : tie.Need-kind-in-requires Inv-loop μ-loop
-kind-in-requires c κs = search needs
+end-requires : tie.Need-end-requires Inv-loop μ-loop
+end-requires c κs = search needs
 
-piece-requires-2 : tie.Need-piece-requires-2 Inv-loop μ-loop
-piece-requires-2 c κs = search needs
+read-requires : tie.Need-read-requires Inv-loop μ-loop
+read-requires c κs = search needs
 
-add-requires : tie.Need-add-requires Inv-loop μ-loop
-add-requires c κs = search needs
+with-requires : tie.Need-with-requires Inv-loop μ-loop
+with-requires c κs = search needs
 
 add-k : tie.Need-add-k Inv-loop μ-loop
 add-k c = search needs
@@ -54,9 +57,6 @@ same-length-3 c = search needs
 same-length-4 : tie.Need-same-length-4 Inv-loop μ-loop
 same-length-4 c = search needs
 
-same-length-5 : tie.Need-same-length-5 Inv-loop μ-loop
-same-length-5 c = search needs
-
 returns : tie.Need-returns Inv-loop μ-loop
 returns c = search needs
 
@@ -67,12 +67,13 @@ read-all-spec =
     Inv-loop
     μ-loop
     nothing-requires
-    pieces-requires
+    words-of-requires
     loop-holds
+    kind-of-requires
     piece-requires
-    kind-in-requires
-    piece-requires-2
-    add-requires
+    end-requires
+    read-requires
+    with-requires
     add-k
     loop-less
     loop-again
@@ -80,5 +81,4 @@ read-all-spec =
     same-length-2
     same-length-3
     same-length-4
-    same-length-5
     returns)
