@@ -1,10 +1,10 @@
 // The calls on one sheet that change nothing: check, verdict.
-use crate::replies::ACCEPTED;
-use crate::replies::REJECTED;
-use crate::replies::Reply;
-use crate::replies::VALID;
-use crate::replies::refused;
-use crate::replies::told;
+use forms::replies::ACCEPTED;
+use forms::replies::REJECTED;
+use forms::replies::Reply;
+use forms::replies::VALID;
+use forms::replies::refused;
+use forms::replies::told;
 use membership::Judgement;
 use packed::Validity;
 use slices::Part;

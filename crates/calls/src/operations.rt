@@ -1,6 +1,6 @@
 // The calls that make a sheet of one or two: complement, intersection, union. `room` is the slice that they fill.
-use crate::replies::Reply;
-use crate::replies::written;
+use forms::replies::Reply;
+use forms::replies::written;
 
 pub fn complement(sheet: &[u8], room: &mut [u8]) -> Reply {
     written(boolean::complement(sheet, room))

@@ -1,9 +1,9 @@
--- `driver::forms::find` is safe and ends. Assumes nothing.
+-- `forms::table::find` is safe and ends. Assumes nothing.
 use borrow.Author.Needs.{needs}
 use Prim.Native.Nat.{_+_, _-_, _≤_}
 use lib.ListN.{length}
-use Rattle.driver.proofs.forms.find.Statement.{statement}
-use Rattle.driver.proofs.forms.find.Tie as tie
+use Rattle.forms.proofs.table.find.Statement.{statement}
+use Rattle.forms.proofs.table.find.Tie as tie
 
 abbrev Inv-loop : tie.InvT-loop
 Inv-loop forms line name count k₀ at₀ k at = (at ≤ length forms + 1) × (k ≤ at)

@@ -1,11 +1,11 @@
 // The searches: compare, emptiness.
-use crate::replies::CONTAINED;
-use crate::replies::EMPTY;
-use crate::replies::FOUND;
-use crate::replies::MISSING;
-use crate::replies::Reply;
-use crate::replies::refused;
-use crate::replies::told;
+use forms::replies::CONTAINED;
+use forms::replies::EMPTY;
+use forms::replies::FOUND;
+use forms::replies::MISSING;
+use forms::replies::Reply;
+use forms::replies::refused;
+use forms::replies::told;
 use inclusion::Comparison;
 use inclusion::Outcome;
 

@@ -1,9 +1,9 @@
 // The sheet as text: number, read, write. `room` is the slice that they fill.
-use crate::replies::NUMBER;
-use crate::replies::Reply;
-use crate::replies::refused;
-use crate::replies::told;
-use crate::replies::written;
+use forms::replies::NUMBER;
+use forms::replies::Reply;
+use forms::replies::refused;
+use forms::replies::told;
+use forms::replies::written;
 use notation::Number;
 use slices::Part;
 use slices::refuse;

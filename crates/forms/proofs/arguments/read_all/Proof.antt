@@ -1,28 +1,28 @@
--- `driver::arguments::read_all` is safe and ends. Assumes nothing.
+-- `forms::arguments::read_all` is safe and ends. Assumes nothing.
 use borrow.Author.Needs.{needs}
-use Prim.Native.Nat.{_-_, _<_, _^_}
+use Prim.Native.Nat.{_-_}
 use lib.ListN.{length}
 use mathlib.Core.Path.{_≡_}
-use Rattle.driver.proofs.arguments.read_all.Statement.{statement}
-use Rattle.driver.proofs.arguments.read_all.Tie as tie
+use Rattle.forms.proofs.arguments.read_all.Statement.{statement}
+use Rattle.forms.proofs.arguments.read_all.Tie as tie
 
 abbrev Inv-loop : tie.InvT-loop
-Inv-loop call line inputs₀ x₀ y₀ w₀ given₀ count k₀ inputs x y w given k = (count < 2 ^ 64) × (length inputs ≡ length inputs₀) × (length x ≡ length x₀) × (length y ≡ length y₀) × (length w ≡ length w₀)
+Inv-loop line inputs₀ x₀ y₀ w₀ kinds given₀ k₀ inputs x y w given k = (length inputs ≡ length inputs₀) × (length x ≡ length x₀) × (length y ≡ length y₀) × (length w ≡ length w₀)
 
 abbrev μ-loop : tie.MeasureT-loop
-μ-loop call line inputs₀ x₀ y₀ w₀ given₀ count k₀ inputs x y w given k = count - k
+μ-loop line inputs₀ x₀ y₀ w₀ kinds given₀ k₀ inputs x y w given k = 8 - k
 
 nothing-requires : tie.Need-nothing-requires Inv-loop μ-loop
 nothing-requires c κs = search needs
 
-words-of-requires : tie.Need-words-of-requires Inv-loop μ-loop
-words-of-requires c κs = search needs
-
 loop-holds : tie.Need-loop-holds Inv-loop μ-loop
 loop-holds c = search needs
 
-kind-of-requires : tie.Need-kind-of-requires Inv-loop μ-loop
-kind-of-requires c κs = search needs
+array-read-read : tie.Need-array-read-read Inv-loop μ-loop
+array-read-read c = search needs
+
+add-piece : tie.Need-add-piece Inv-loop μ-loop
+add-piece c = search needs
 
 piece-requires : tie.Need-piece-requires Inv-loop μ-loop
 piece-requires c κs = search needs
@@ -32,6 +32,9 @@ end-requires c κs = search needs
 
 read-requires : tie.Need-read-requires Inv-loop μ-loop
 read-requires c κs = search needs
+
+array-read-with : tie.Need-array-read-with Inv-loop μ-loop
+array-read-with c = search needs
 
 with-requires : tie.Need-with-requires Inv-loop μ-loop
 with-requires c κs = search needs
@@ -67,12 +70,13 @@ read-all-spec =
     Inv-loop
     μ-loop
     nothing-requires
-    words-of-requires
     loop-holds
-    kind-of-requires
+    array-read-read
+    add-piece
     piece-requires
     end-requires
     read-requires
+    array-read-with
     with-requires
     add-k
     loop-less

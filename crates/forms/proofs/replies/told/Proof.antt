@@ -1,9 +1,9 @@
--- `driver::replies::told` is safe and ends. Assumes nothing.
+-- `forms::replies::told` is safe and ends. Assumes nothing.
 use borrow.Author.Needs.{needs}
 use Prim.Native.Nat.{_-_, _≤_}
 use lib.ListN.{length}
-use Rattle.driver.proofs.replies.told.Statement.{statement}
-use Rattle.driver.proofs.replies.told.Tie as tie
+use Rattle.forms.proofs.replies.told.Statement.{statement}
+use Rattle.forms.proofs.replies.told.Tie as tie
 
 abbrev Inv-loop : tie.InvT-loop
 Inv-loop k numbers r₀ i₀ r i = i ≤ length numbers

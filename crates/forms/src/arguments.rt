@@ -1,8 +1,8 @@
 // The arguments of a line, by their kinds: `i` is a slice of bytes that the call only reads, `x` and `y` one that is lent to it, `w`
 // one of 64-bit cells, `n` a number, `p` a cursor's part.
-use crate::call_cursor::part_in;
-use crate::forms::kind_of;
-use crate::forms::words_of;
+use crate::replies::LOOP;
+use crate::replies::OPENING;
+use crate::table::Form;
 use lines::cells::Width;
 use lines::parts::between;
 use lines::reading::slice_in;
@@ -63,7 +63,8 @@ impl Given {
             b'y' => self.y = v,
             b'w' => self.w = v,
             b'n' => self.n = v,
-            _ => self.p = v,
+            b'p' => self.p = v,
+            _ => (),
         }
         self
     }
@@ -84,6 +85,17 @@ pub fn input(inputs: &[u8], g: Given, k: usize) -> &[u8] {
         return between(inputs, ends[k], ends[k + 1]);
     }
     between(inputs, 0, 0)
+}
+
+// The part that a word names, by the number of that word.
+fn part_in(word: &[u8]) -> Word {
+    if check::same(word, b"opening") {
+        return Word::Good(OPENING);
+    }
+    if check::same(word, b"loop") {
+        return Word::Good(LOOP);
+    }
+    Word::Bad
 }
 
 // Reads a slice behind the others; where it ends.
@@ -121,26 +133,34 @@ fn read(
         b'y' => slice_in(word, Width::Byte, y, w),
         b'w' => slice_in(word, Width::Long, x, w),
         b'n' => number_in(word),
-        _ => part_in(word),
+        b'p' => part_in(word),
+        _ => Word::Good(0),
     }
 }
 
-// All arguments of a line that makes a call.
+// All arguments of a line of a form.
 pub fn read_all(
-    call: usize,
+    form: Form,
     line: &[u8],
     inputs: &mut [u8],
     x: &mut [u8],
     y: &mut [u8],
     w: &mut [u64],
 ) -> Given {
+    let kinds = form.kinds;
     let mut given = nothing();
-    let count = words_of(call);
-    let mut k = 1;
-    while k < count {
-        let kind = kind_of(call, k);
-        let found = read(kind, piece(line, b' ', k), given.end(), inputs, x, y, w);
-        given = given.with(kind, found);
+    let mut k = 0;
+    while k < 8 {
+        let found = read(
+            kinds[k],
+            piece(line, b' ', k + 1),
+            given.end(),
+            inputs,
+            x,
+            y,
+            w,
+        );
+        given = given.with(kinds[k], found);
         k += 1;
     }
     given

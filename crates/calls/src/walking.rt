@@ -1,29 +1,17 @@
 // The cursor: start, step, rest. A part is given by the number of its word.
-use crate::replies::CURSOR;
-use crate::replies::LOOP;
-use crate::replies::OPENING;
-use crate::replies::PASSED;
-use crate::replies::REST;
-use crate::replies::Reply;
-use crate::replies::refused;
-use crate::replies::say;
 use cursor::Cursor;
 use cursor::Phase;
 use cursor::Step;
-use lines::words::Word;
+use forms::replies::CURSOR;
+use forms::replies::LOOP;
+use forms::replies::OPENING;
+use forms::replies::PASSED;
+use forms::replies::REST;
+use forms::replies::Reply;
+use forms::replies::refused;
+use forms::replies::say;
 use slices::copy;
 use slices::wide;
-
-// The part that a word names.
-pub fn part_in(word: &[u8]) -> Word {
-    if check::same(word, b"opening") {
-        return Word::Good(OPENING);
-    }
-    if check::same(word, b"loop") {
-        return Word::Good(LOOP);
-    }
-    Word::Bad
-}
 
 fn cursor_at(part: usize, at: usize) -> Cursor {
     if part == OPENING {

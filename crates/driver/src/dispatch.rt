@@ -1,29 +1,40 @@
-// The calls that lines make. A new call has a form (forms.rt), an arm in `make`, and a function in the file of its subject.
-use crate::arguments::Given;
-use crate::arguments::input;
-use crate::arguments::read_all;
-use crate::call_boolean;
-use crate::call_cursor;
-use crate::call_search;
-use crate::call_sheet;
-use crate::call_text;
-use crate::forms::call_of;
-use crate::forms::kind_of;
-use crate::forms::words_of;
-use crate::replies::REFUSED;
-use crate::replies::Reply;
-use crate::replies::put_reply;
-use crate::replies::say;
-use lines::cells::Width;
+// The calls that lines make. A new call has a form and an arm here, and a function in the file of its subject in `calls`.
+use calls::operations;
+use calls::searches;
+use calls::sheet;
+use calls::text;
+use calls::walking;
+use forms::arguments::Given;
+use forms::arguments::input;
+use forms::arguments::read_all;
+use forms::lent::put_all_lent;
+use forms::replies::REFUSED;
+use forms::replies::Reply;
+use forms::replies::put_reply;
+use forms::replies::say;
+use forms::table::Form;
+use forms::table::find;
+use forms::table::form_of;
 use lines::parts::between;
 use lines::parts::cells_mut;
 use lines::parts::front_mut;
 use lines::printing::flush;
 use lines::printing::put;
-use lines::printing::put_slice;
 use lines::printing::put_text;
 use lines::words::Word;
 use lines::words::until;
+
+const FORMS: [u8; 167] =
+    *b"check i|verdict i i i|complement i x|intersection i i x|union i i x|compare i i x y w|emptiness i x y w|start i|step p n i i|rest p n i i|number i n|read i x|write i x";
+
+// The call that a line makes.
+fn call_of(line: &[u8]) -> Word {
+    find(&FORMS, line)
+}
+
+fn form(call: usize) -> Form {
+    form_of(&FORMS, call)
+}
 
 // Makes the call with this number.
 fn make(call: usize, g: Given, inputs: &[u8], x: &mut [u8], y: &mut [u8], w: &mut [u64]) -> Reply {
@@ -31,65 +42,21 @@ fn make(call: usize, g: Given, inputs: &[u8], x: &mut [u8], y: &mut [u8], w: &mu
     let b = input(inputs, g, 1);
     let c = input(inputs, g, 2);
     match call {
-        0 => call_sheet::check(a),
-        1 => call_sheet::verdict(a, b, c),
-        2 => call_boolean::complement(a, x),
-        3 => call_boolean::intersection(a, b, x),
-        4 => call_boolean::union(a, b, x),
-        5 => call_search::compare(a, b, x, y, w),
-        6 => call_search::emptiness(a, x, y, w),
-        7 => call_cursor::start(a),
-        8 => call_cursor::step(g.p, g.n, a, b),
-        9 => call_cursor::rest(g.p, g.n, a, b, x),
-        10 => call_text::number(a, g.n),
-        11 => call_text::read(a, x),
-        12 => call_text::write(a, x),
+        0 => sheet::check(a),
+        1 => sheet::verdict(a, b, c),
+        2 => operations::complement(a, x),
+        3 => operations::intersection(a, b, x),
+        4 => operations::union(a, b, x),
+        5 => searches::compare(a, b, x, y, w),
+        6 => searches::emptiness(a, x, y, w),
+        7 => walking::start(a),
+        8 => walking::step(g.p, g.n, a, b),
+        9 => walking::rest(g.p, g.n, a, b, x),
+        10 => text::number(a, g.n),
+        11 => text::read(a, x),
+        12 => text::write(a, x),
         _ => say(REFUSED),
     }
-}
-
-fn is_lent(kind: u8) -> bool {
-    kind == b'x' || kind == b'y' || kind == b'w'
-}
-
-// What stands before a lent slice, by the kind of the argument before it.
-fn put_bar(last: u8, out: &mut [u8], n: usize) -> usize {
-    if is_lent(last) {
-        return put(out, n, b' ');
-    }
-    put_text(out, n, b" | ")
-}
-
-fn put_kind(kind: u8, x: &[u8], y: &[u8], w: &[u64], out: &mut [u8], n: usize) -> usize {
-    match kind {
-        b'x' => put_slice(out, n, Width::Byte, x, w),
-        b'y' => put_slice(out, n, Width::Byte, y, w),
-        _ => put_slice(out, n, Width::Long, x, w),
-    }
-}
-
-// An argument after the call, if it is a lent slice.
-fn put_lent(last: u8, kind: u8, x: &[u8], y: &[u8], w: &[u64], out: &mut [u8], n: usize) -> usize {
-    if !is_lent(kind) {
-        return n;
-    }
-    let to = put_bar(last, out, n);
-    put_kind(kind, x, y, w, out, to)
-}
-
-// All lent slices of a call, after a bar.
-fn put_all_lent(call: usize, x: &[u8], y: &[u8], w: &[u64], out: &mut [u8], n: usize) -> usize {
-    let count = words_of(call);
-    let mut last = 0;
-    let mut to = n;
-    let mut k = 1;
-    while k < count {
-        let kind = kind_of(call, k);
-        to = put_lent(last, kind, x, y, w, out, to);
-        last = kind;
-        k += 1;
-    }
-    to
 }
 
 // Makes a call and prints what it answers, then what is lent.
@@ -105,7 +72,7 @@ fn perform(
 ) -> usize {
     let reply = make(call, g, inputs, x, y, w);
     let to = put_reply(out, n, reply, x, w);
-    put_all_lent(call, x, y, w, out, to)
+    put_all_lent(out, to, form(call), x, y, w)
 }
 
 fn is_note(line: &[u8]) -> bool {
@@ -132,7 +99,7 @@ fn answer(
     let Word::Good(call) = found else {
         return put_text(out, n, b"no call");
     };
-    let g = read_all(call, line, inputs, x, y, w);
+    let g = read_all(form(call), line, inputs, x, y, w);
     if !g.is_good {
         return put_text(out, n, b"no call");
     }

@@ -1,28 +1,28 @@
--- `driver::calls::put_all_lent` is safe and ends. Assumes nothing.
+-- `forms::lent::put_all_lent` is safe and ends. Assumes nothing.
 use borrow.Author.Needs.{needs}
-use Prim.Native.Nat.{_-_, _<_, _^_}
+use Prim.Native.Nat.{_-_}
 use lib.ListN.{length}
 use mathlib.Core.Path.{_≡_}
-use Rattle.driver.proofs.calls.put_all_lent.Statement.{statement}
-use Rattle.driver.proofs.calls.put_all_lent.Tie as tie
+use Rattle.forms.proofs.lent.put_all_lent.Statement.{statement}
+use Rattle.forms.proofs.lent.put_all_lent.Tie as tie
 
 abbrev Inv-loop : tie.InvT-loop
-Inv-loop call x y w out₀ n count last₀ to₀ k₀ out last to k = (count < 2 ^ 64) × (length out ≡ length out₀)
+Inv-loop out₀ n x y w kinds last₀ to₀ k₀ out last to k = length out ≡ length out₀
 
 abbrev μ-loop : tie.MeasureT-loop
-μ-loop call x y w out₀ n count last₀ to₀ k₀ out last to k = count - k
-
-words-of-requires : tie.Need-words-of-requires Inv-loop μ-loop
-words-of-requires c κs = search needs
+μ-loop out₀ n x y w kinds last₀ to₀ k₀ out last to k = 8 - k
 
 loop-holds : tie.Need-loop-holds Inv-loop μ-loop
 loop-holds c = search needs
 
-kind-of-requires : tie.Need-kind-of-requires Inv-loop μ-loop
-kind-of-requires c κs = search needs
+array-read-put-lent : tie.Need-array-read-put-lent Inv-loop μ-loop
+array-read-put-lent c = search needs
 
 put-lent-requires : tie.Need-put-lent-requires Inv-loop μ-loop
 put-lent-requires c κs = search needs
+
+array-read-last : tie.Need-array-read-last Inv-loop μ-loop
+array-read-last c = search needs
 
 add-k : tie.Need-add-k Inv-loop μ-loop
 add-k c = search needs
@@ -45,10 +45,10 @@ put-all-lent-spec =
     (tie.spec
     Inv-loop
     μ-loop
-    words-of-requires
     loop-holds
-    kind-of-requires
+    array-read-put-lent
     put-lent-requires
+    array-read-last
     add-k
     loop-less
     loop-again

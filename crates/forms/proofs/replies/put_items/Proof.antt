@@ -1,10 +1,10 @@
--- `driver::replies::put_items` is safe and ends. Assumes nothing.
+-- `forms::replies::put_items` is safe and ends. Assumes nothing.
 use borrow.Author.Needs.{needs}
 use Prim.Native.Nat.{_-_, _≤_}
 use lib.ListN.{length}
 use mathlib.Core.Path.{_≡_}
-use Rattle.driver.proofs.replies.put_items.Statement.{statement}
-use Rattle.driver.proofs.replies.put_items.Tie as tie
+use Rattle.forms.proofs.replies.put_items.Statement.{statement}
+use Rattle.forms.proofs.replies.put_items.Tie as tie
 
 abbrev Inv-loop : tie.InvT-loop
 Inv-loop out₀ n items words count to₀ i₀ out to i = (length out ≡ length out₀) × (count ≤ 8)
