@@ -7,10 +7,13 @@ use Rattle.driver.proofs.input.shift.Statement.{statement}
 use Rattle.driver.proofs.input.shift.Tie as tie
 
 abbrev Inv-loop : tie.InvT-loop
-Inv-loop lines₀ start n₀ i₀ lines n i = (length lines ≡ length lines₀) × (n ≤ i)
+Inv-loop lines₀ start end n₀ i₀ lines n i = (length lines ≡ length lines₀) × (n ≤ i)
 
 abbrev μ-loop : tie.MeasureT-loop
-μ-loop lines₀ start n₀ i₀ lines n i = length lines₀ - i
+μ-loop lines₀ start end n₀ i₀ lines n i = end - i
+
+returns : tie.Need-returns Inv-loop μ-loop
+returns c = search needs
 
 loop-holds : tie.Need-loop-holds Inv-loop μ-loop
 loop-holds c = search needs
@@ -36,8 +39,8 @@ loop-again c = search needs
 same-length : tie.Need-same-length Inv-loop μ-loop
 same-length c = search needs
 
-returns : tie.Need-returns Inv-loop μ-loop
-returns c = search needs
+returns-2 : tie.Need-returns-2 Inv-loop μ-loop
+returns-2 c = search needs
 
 pub shift-spec : {M : Type 1} → statement M
 shift-spec =
@@ -45,6 +48,7 @@ shift-spec =
     (tie.spec
     Inv-loop
     μ-loop
+    returns
     loop-holds
     slice-read-lines
     slice-write-lines
@@ -53,4 +57,4 @@ shift-spec =
     loop-less
     loop-again
     same-length
-    returns)
+    returns-2)

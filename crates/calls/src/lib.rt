@@ -1,0 +1,6 @@
+// The library calls as the driver makes them: each takes plain slices and numbers, and answers in words and numbers.
+pub mod sheet; // sheet.rt: check, verdict
+pub mod operations; // operations.rt: complement, intersection, union
+pub mod searches; // searches.rt: compare, emptiness
+pub mod walking; // walking.rt: start, step, rest of the cursor
+pub mod text; // text.rt: number, read, write

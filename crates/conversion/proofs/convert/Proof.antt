@@ -1,0 +1,59 @@
+-- `conversion::convert` meets its contract: what a call filled fits the slice, since the last of its tests is 21. Assumes nothing.
+use mathlib.Core.Path.{ap, sym, _∙_}
+use native.Mathlib.Omega.{arith}
+use lib.ListN.{length}
+use denote.Ref.{now}
+use Rattle.slices.specs.declared.Part.the-variants.{First}
+use Rattle.slices.specs.Refusals.{writtenSays}
+use Rattle.packed.specs.Faults.{sheetFault}
+use Rattle.notation.specs.Reading.{judged, faultOf, bytesOf}
+use Rattle.notation.specs.Text.{textOf}
+use Rattle.console.proofs.Room.{fits}
+use borrow.Author.Needs.{needs}
+use Rattle.conversion.proofs.convert.Statement.{statement}
+use Rattle.conversion.proofs.convert.Tie as tie
+
+enum-told : tie.Need-enum-told
+enum-told c = search needs
+
+read-requires : tie.Need-read-requires
+read-requires c κs = search needs
+
+enum-told-2 : tie.Need-enum-told-2
+enum-told-2 c = search needs
+
+write-requires : tie.Need-write-requires
+write-requires c κs = search needs
+
+same-length : tie.Need-same-length
+same-length c = search needs
+
+returns : tie.Need-returns
+returns c = λ n e.
+    let s = c .before .before .before .before .before .before .before .before .args in
+    let t = now (s .source) in
+    let h = fits (faultOf (judged t)) (length (now (s .out))) (length (bytesOf t)) (sym (ap writtenSays e) ∙ c .before .before .read .ensures .0) in
+    omega (arith, h, c .before .before .read .kept .1 .0)
+
+same-length-2 : tie.Need-same-length-2
+same-length-2 c = search needs
+
+returns-2 : tie.Need-returns-2
+returns-2 c = λ n e.
+    let s = c .before .before .before .before .before .before .before .before .args in
+    let t = now (s .source) in
+    let h = fits (sheetFault First t) (length (now (s .out))) (length (textOf t)) (sym (ap writtenSays e) ∙ c .before .before .write .ensures .0) in
+    omega (arith, h, c .before .before .write .kept .1 .0)
+
+pub convert-spec : {M : Type 1} → statement M
+convert-spec =
+    tie.close
+    (tie.spec
+    enum-told
+    read-requires
+    enum-told-2
+    write-requires
+    same-length
+    returns
+    same-length-2
+    returns-2)
