@@ -4,15 +4,14 @@ use forms::replies::Reply;
 use forms::replies::refused;
 use forms::replies::told;
 use forms::replies::written;
-use notation::Number;
-use slices::Part;
-use slices::refuse;
+use numbers::Number;
+use numbers::read_number;
 
 pub fn number(text: &[u8], place: usize) -> Reply {
-    let answer = notation::numbers::number_at(text, place);
+    let answer = read_number(text, place);
     match answer {
         Number::Good(x, next) => told(NUMBER, &[x, next]),
-        Number::Bad(at) => refused(refuse(11, Part::First, at)),
+        Number::Refused(r) => refused(r),
     }
 }
 
