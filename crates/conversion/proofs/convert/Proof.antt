@@ -6,7 +6,7 @@ use denote.Ref.{now}
 use Rattle.slices.specs.declared.Part.the-variants.{First}
 use Rattle.slices.specs.Refusals.{writtenSays}
 use Rattle.packed.specs.Faults.{sheetFault}
-use Rattle.notation.specs.Reading.{judged, faultOf, bytesOf}
+use Rattle.notation.specs.Reading.{numbersOf, faultIn, bytesOf, readFault}
 use Rattle.notation.specs.Text.{textOf}
 use Rattle.console.proofs.Room.{fits}
 use borrow.Author.Needs.{needs}
@@ -29,10 +29,11 @@ same-length : tie.Need-same-length
 same-length c = search needs
 
 returns : tie.Need-returns
+unfolding readFault bytesOf
 returns c = λ n e.
     let s = c .before .before .before .before .before .before .before .before .args in
     let t = now (s .source) in
-    let h = fits (faultOf (judged t)) (length (now (s .out))) (length (bytesOf t)) (sym (ap writtenSays e) ∙ c .before .before .read .ensures .0) in
+    let h = fits (faultIn (numbersOf 3 t)) (length (now (s .out))) (length (bytesOf t)) (sym (ap writtenSays e) ∙ c .before .before .read .ensures .says) in
     omega (arith, h, c .before .before .read .kept .1 .0)
 
 same-length-2 : tie.Need-same-length-2
@@ -42,7 +43,7 @@ returns-2 : tie.Need-returns-2
 returns-2 c = λ n e.
     let s = c .before .before .before .before .before .before .before .before .args in
     let t = now (s .source) in
-    let h = fits (sheetFault First t) (length (now (s .out))) (length (textOf t)) (sym (ap writtenSays e) ∙ c .before .before .write .ensures .0) in
+    let h = fits (sheetFault First t) (length (now (s .out))) (length (textOf t)) (sym (ap writtenSays e) ∙ c .before .before .write .ensures .says) in
     omega (arith, h, c .before .before .write .kept .1 .0)
 
 pub convert-spec : {M : Type 1} → statement M
