@@ -4,13 +4,12 @@ use slices::Part;
 use slices::Refusal;
 use slices::copy;
 use slices::wide;
-ghost use Prim.Native.Nat.{_≤_};
+ghost use Prim.Native.Nat.{_+_, _≤_};
 ghost use lib.ListN.{length};
 ghost use Rattle.numbers.specs.Digits.{field};
+ghost use Rattle.numbers.specs.Storing.{Stored};
 ghost use Rattle.console.specs.Printed.{partField, refusalText, Shows};
 
-// Room for a number: 20 digits, and the byte that ends it.
-const NUMBER: usize = 21;
 // Room for a refusal: its line of names, 19 bytes, two numbers and a name.
 const REFUSAL: usize = 80;
 
@@ -28,19 +27,26 @@ pub fn put(text: &[u8], out: &mut [u8]) -> usize
     text.len()
 }
 
+// A text from a place on, each byte where there is room for it; and the place after it.
+pub fn store(text: &[u8], out: &mut [u8], at: usize) -> usize
+    requires { ⌜ at + length (now text) ≤ 18446744073709551615 ⌝ }
+    ensures { λ r. ⌜ Stored (now (out .entry)) at (now (text .entry)) (now (out .exit)) r ⌝ }
+{
+    let mut p = at;
+    let mut i = 0;
+    while i < text.len() {
+        p = numbers::put(out, p, text[i]);
+        i += 1;
+    }
+    p
+}
+
 // The digits that a number takes, then the byte that ends its field.
 pub fn put_number(n: usize, end: u8, out: &mut [u8]) -> usize
     requires { ⌜ 21 ≤ length (now out) ⌝ }
     ensures { λ r. ⌜ Shows (field n end) (now (out .entry)) (now (out .exit)) r × (r ≤ 21) ⌝ }
 {
     put_field(n, end, out, 0)
-}
-
-// The same, printed.
-pub fn print_number(n: usize, end: u8) {
-    let mut text = [0u8; NUMBER];
-    let k = put_number(n, end, &mut text);
-    print(&text[..k]);
 }
 
 // A part's name and a space.

@@ -1,0 +1,79 @@
+-- The blocks of what the comparison prints, out of the texts that they are stored by. Assumes nothing.
+use mathlib.Core.Path.{_≡_, ap, sym, subst}
+use mathlib.Core.List.{List, _++_, append-assoc}
+use Prim.Native.Nat.{ℕ, _+_, _*_, _≤_, _<_}
+use native.Mathlib.Omega.{arith}
+use lib.ListN.{length, take}
+use Rattle.slices.specs.declared.Refusal.{Refusal}
+use Rattle.lasso_search.specs.declared.Comparison.{Comparison}
+use Rattle.lasso_search.specs.declared.Outcome.{Outcome}
+use Rattle.lasso_search.specs.declared.Outcome.the-variants.{Absent, Found, Refused}
+use Rattle.numbers.specs.Digits.{field}
+use Rattle.numbers.specs.Storing.{Stored}
+use Rattle.numbers.proofs.Digits.{length-field, digits-few}
+use Rattle.numbers.proofs.Stores.{stored-then, stored-as, stored-written}
+use Rattle.console.specs.Printed.{Shows, refusalText}
+use Rattle.console.proofs.Printed.{shows-as}
+use Rattle.compare.specs.Text.{verdictTitle, contained, missing, verdictBlock, sceneTitle, showBlock, comparisonText, Lies}
+
+-- a field of a number of 64 bits
+pub field-few : (n e : ℕ) → n < 18446744073709551616 → length (field n e) ≤ 21
+field-few n e h = omega (arith, length-field n e, digits-few n h)
+
+pub five : (a b c d e : List ℕ) → (((a ++ b) ++ c) ++ d) ++ e ≡ a ++ b ++ c ++ d ++ e
+five a b c d e = simp append-assoc
+
+pub three : (a b c : List ℕ) → (a ++ b) ++ c ≡ a ++ b ++ c
+three a b c = simp append-assoc
+
+-- the first block, field by field
+pub verdict-stored : {old o₁ o₂ o₃ o₄ new : List ℕ} {at p₁ p₂ p₃ p₄ r : ℕ} (verdict : List ℕ) (z : Comparison) → length verdict ≤ 10
+    → z .reached < 18446744073709551616 → z .prefix < 18446744073709551616 → z .period < 18446744073709551616
+    → Stored old at verdictTitle o₁ p₁ → Stored o₁ p₁ verdict o₂ p₂ → Stored o₂ p₂ (field (z .reached) 32) o₃ p₃
+    → Stored o₃ p₃ (field (z .prefix) 32) o₄ p₄ → Stored o₄ p₄ (field (z .period) 10) new r
+    → Stored old at (verdictBlock verdict z) new r × (r ≤ at + 102)
+verdict-stored verdict z l h k m a b c d e = (
+  stored-as (five verdictTitle verdict (field (z .reached) 32) (field (z .prefix) 32) (field (z .period) 10)) (stored-then _ _ (stored-then _ _ (stored-then _ _ (stored-then _ _ a b) c) d) e),
+  omega (arith, a .next, b .next, c .next, d .next, e .next, field-few (z .reached) 32 h, field-few (z .prefix) 32 k, field-few (z .period) 10 m),
+)
+
+-- the line of a scene
+pub scene-stored : {old mid new : List ℕ} {at p r w : ℕ} (name : List ℕ) (scene : ℕ) → w ≡ scene → scene < 256 → length name ≤ 8
+    → Stored old at name mid p → Stored mid p (field w 10) new r → Stored old at (name ++ field scene 10) new r × (r ≤ at + 29)
+scene-stored name scene e h l a b =
+    let c = stored-as (ap (λ (n : ℕ). field n 10) e) b in
+    (stored-then name (field scene 10) a c, omega (arith, a .next, c .next, field-few scene 10 (omega arith)))
+
+-- the second block, part by part
+pub show-stored : {old o₁ o₂ new : List ℕ} {at p₁ p₂ r : ℕ} (m n : ℕ) (u v : List ℕ) → Stored old at sceneTitle o₁ p₁ → Stored o₁ p₁ u o₂ p₂ × (p₂ ≤ p₁ + m)
+    → Stored o₂ p₂ v new r × (r ≤ p₂ + n) → Stored old at (sceneTitle ++ u ++ v) new r × (r ≤ at + 11 + m + n)
+show-stored m n u v a b c = (stored-as (three sceneTitle u v) (stored-then _ _ (stored-then _ _ a (b .0)) (c .0)), omega (arith, a .next, b .1, c .1))
+
+-- a text that is stored from the start and has room is shown
+pub stored-shows : {x old new : List ℕ} {r room : ℕ} → Stored old 0 x new r → r ≤ room → room ≤ length old → Shows x old new r
+stored-shows {x} {old} s h k = record {
+  says = omega (arith, s .next);
+  fits = omega arith;
+  cells = stored-written s (omega (arith, s .next));
+}
+
+-- what lies within the slices, of an answer that is known
+pub lies-found : {answer : Outcome} {z : Comparison} (o p : ℕ) → answer ≡ Found z → Lies answer o p → (z .prefix ≤ o) × (z .period ≤ p)
+lies-found o p e l = subst (λ (x : Outcome). Lies x o p) e l
+
+-- all of the text, answer by answer
+pub absent-shown : {answer : Outcome} {z : Comparison} {old new : List ℕ} {r : ℕ} (o p : List ℕ) → answer ≡ Absent z → 237681 ≤ length old
+    → Stored old 0 (verdictBlock contained z) new r × (r ≤ 0 + 102) → Shows (comparisonText answer o p) old new r
+absent-shown o p e h s = shows-as (ap (λ (x : Outcome). comparisonText x o p) (sym e)) (stored-shows (s .0) (s .1) (omega arith))
+
+pub found-shown : {answer : Outcome} {z : Comparison} {old mid new : List ℕ} {q r : ℕ} (o p : List ℕ) → answer ≡ Found z → 237681 ≤ length old
+    → length (take (z .prefix) o) ≤ 4096 → length (take (z .period) p) ≤ 4096 → Stored old 0 (verdictBlock missing z) mid q × (q ≤ 0 + 102)
+    → Stored mid q (showBlock (take (z .prefix) o) (take (z .period) p)) new r × (r ≤ q + 11 + length (take (z .prefix) o) * 29 + length (take (z .period) p) * 29)
+    → Shows (comparisonText answer o p) old new r
+found-shown {z = z} o p e h k l a b =
+    let s = stored-then (verdictBlock missing z) (showBlock (take (z .prefix) o) (take (z .period) p)) (a .0) (b .0) in
+    shows-as (ap (λ (x : Outcome). comparisonText x o p) (sym e)) (stored-shows {room = 237681} s (omega (arith, a .1, b .1)) h)
+
+pub refused-shown : {answer : Outcome} {x : Refusal} {old new : List ℕ} {r : ℕ} (o p : List ℕ) → answer ≡ Refused x → Shows (refusalText x) old new r
+    → Shows (comparisonText answer o p) old new r
+refused-shown o p e s = shows-as (ap (λ (y : Outcome). comparisonText y o p) (sym e)) s

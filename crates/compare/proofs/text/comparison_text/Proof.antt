@@ -1,0 +1,106 @@
+-- `compare::text::comparison_text` meets its contract. Assumes nothing.
+use mathlib.Core.Path.{sym}
+use Prim.Native.Nat.{_≤_}
+use native.Mathlib.Omega.{arith}
+use lib.ListN.{length, take}
+use lib.Seq.{length-take-le}
+use denote.Ref.{now}
+use Rattle.compare.proofs.Blocks.{lies-found, absent-shown, found-shown, refused-shown}
+use borrow.Author.Needs.{needs}
+use Rattle.compare.proofs.text.comparison_text.Statement.{statement}
+use Rattle.compare.proofs.text.comparison_text.Tie as tie
+
+-- a show that was found lies within the slices, and is short
+abbrev start : tie.After-answer2 → tie.Start
+start a = a .before .before .before .before .before
+
+within :
+    (a : tie.After-answer2)
+    → (a .answer2 .given .0 .0 .prefix ≤ length (now (start a .args .opening))) × (a .answer2 .given .0 .0 .period ≤ length (now (start a .args .period)))
+within a =
+    lies-found (length (now (start a .args .opening))) (length (now (start a .args .period))) (a .answer2 .given .1) (start a .pre .0)
+
+short :
+    (a : tie.After-answer2)
+    → (length (take (a .answer2 .given .0 .0 .prefix) (now (start a .args .opening))) ≤ 4096) × (length (take (a .answer2 .given .0 .0 .period) (now (start a .args .period))) ≤ 4096)
+short a =
+    let s = start a in (
+      omega (arith, length-take-le (a .answer2 .given .0 .0 .prefix) (now (s .args .opening)) (within a .0), within a .0, s .pre .1),
+      omega (arith, length-take-le (a .answer2 .given .0 .0 .period) (now (s .args .period)) (within a .1), within a .1, s .pre .2),
+    )
+
+enum-known-answer : tie.Need-enum-known-answer
+enum-known-answer c = search needs
+
+slice-aggregate-put-verdict : tie.Need-slice-aggregate-put-verdict
+slice-aggregate-put-verdict c = search needs
+
+put-verdict-requires : tie.Need-put-verdict-requires
+put-verdict-requires c κs = search needs
+
+enum-known-answer-2 : tie.Need-enum-known-answer-2
+enum-known-answer-2 c = search needs
+
+slice-aggregate-put-verdict-2 : tie.Need-slice-aggregate-put-verdict-2
+slice-aggregate-put-verdict-2 c = search needs
+
+put-verdict-requires-2 : tie.Need-put-verdict-requires-2
+put-verdict-requires-2 c κs = search needs
+
+slice-aggregate-put-show : tie.Need-slice-aggregate-put-show
+slice-aggregate-put-show c = sym (length-take-le _ _ (within (c .before .before .before .before .before .before .before) .0))
+
+slice-aggregate-put-show-2 : tie.Need-slice-aggregate-put-show-2
+slice-aggregate-put-show-2 c = sym (length-take-le _ _ (within (c .before .before .before .before .before .before .before .before) .1))
+
+put-show-requires : tie.Need-put-show-requires
+put-show-requires c κs =
+    let h = short (c .before .before .before .before .before .before .before .before .before) in omega (arith, h .0, h .1, c .before .before .before .before .before .put-verdict2 .ensures .1)
+
+enum-known-answer-3 : tie.Need-enum-known-answer-3
+enum-known-answer-3 c = search needs
+
+refusal-text-requires : tie.Need-refusal-text-requires
+refusal-text-requires c κs = search needs
+
+same-length : tie.Need-same-length
+same-length c = search needs
+
+returns : tie.Need-returns
+returns c = absent-shown _ _ (c .before .before .before .before .before .before .answer .given .1) (c .before .before .before .before .before .before .before .before .before .before .before .pre .3) (c .before .before .put-verdict .ensures)
+
+same-length-2 : tie.Need-same-length-2
+same-length-2 c = search needs
+
+returns-2 : tie.Need-returns-2
+returns-2 c =
+    let a = c .before .before .before .before .before .before .before .before .before .before .before .before in
+    found-shown _ _ (a .answer2 .given .1) (start a .pre .3) (short a .0) (short a .1) (c .before .before .before .before .before .before .before .before .put-verdict2 .ensures) (c .before .before .put-show .ensures)
+
+same-length-3 : tie.Need-same-length-3
+same-length-3 c = search needs
+
+returns-3 : tie.Need-returns-3
+returns-3 c = refused-shown _ _ (c .before .before .before .before .before .answer3 .given .1) (c .before .before .refusal-text .ensures)
+
+pub comparison-text-spec : {M : Type 1} → statement M
+comparison-text-spec =
+    tie.close
+    (tie.spec
+    enum-known-answer
+    slice-aggregate-put-verdict
+    put-verdict-requires
+    enum-known-answer-2
+    slice-aggregate-put-verdict-2
+    put-verdict-requires-2
+    slice-aggregate-put-show
+    slice-aggregate-put-show-2
+    put-show-requires
+    enum-known-answer-3
+    refusal-text-requires
+    same-length
+    returns
+    same-length-2
+    returns-2
+    same-length-3
+    returns-3)

@@ -1,0 +1,51 @@
+-- What the comparison prints for each answer (01), block by block. Assumes nothing.
+use mathlib.Core.List.{List, [], _∷_, _++_}
+use Prim.Native.Nat.{ℕ, _≤_}
+use lib.ListN.{length, take, getD}
+use Rattle.slices.specs.declared.Part.{Part}
+use Rattle.slices.specs.declared.Part.the-variants.{Opening, Loop}
+use Rattle.slices.specs.Tables.{rows}
+use Rattle.numbers.specs.Digits.{field}
+use Rattle.console.specs.Printed.{partField, refusalText}
+use Rattle.lasso_search.specs.declared.Comparison.{Comparison}
+use Rattle.lasso_search.specs.declared.Outcome.{Outcome}
+use Rattle.lasso_search.specs.declared.Outcome.the-variants.{Absent, Found, Refused}
+
+-- "verdict reached opening loop" and a line feed
+abbrev pub verdictTitle : List ℕ
+verdictTitle = 118 ∷ 101 ∷ 114 ∷ 100 ∷ 105 ∷ 99 ∷ 116 ∷ 32 ∷ 114 ∷ 101 ∷ 97 ∷ 99 ∷ 104 ∷ 101 ∷ 100 ∷ 32 ∷ 111 ∷ 112 ∷ 101 ∷ 110 ∷ 105 ∷ 110 ∷ 103 ∷ 32 ∷ 108 ∷ 111 ∷ 111 ∷ 112 ∷ 10 ∷ []
+
+-- "contained" and a space; "missing" and a space
+abbrev pub contained : List ℕ
+contained = 99 ∷ 111 ∷ 110 ∷ 116 ∷ 97 ∷ 105 ∷ 110 ∷ 101 ∷ 100 ∷ 32 ∷ []
+
+abbrev pub missing : List ℕ
+missing = 109 ∷ 105 ∷ 115 ∷ 115 ∷ 105 ∷ 110 ∷ 103 ∷ 32 ∷ []
+
+-- The first block: the line of names, then the verdict, R and the two lengths.
+abbrev pub verdictBlock : List ℕ → Comparison → List ℕ
+verdictBlock verdict z = verdictTitle ++ verdict ++ field (z .reached) 32 ++ field (z .prefix) 32 ++ field (z .period) 10
+
+-- "part scene" and a line feed
+abbrev pub sceneTitle : List ℕ
+sceneTitle = 112 ∷ 97 ∷ 114 ∷ 116 ∷ 32 ∷ 115 ∷ 99 ∷ 101 ∷ 110 ∷ 101 ∷ 10 ∷ []
+
+-- A line for each scene: the name of its part and a space, then its number.
+abbrev pub sceneLines : List ℕ → List ℕ → List ℕ
+sceneLines name scenes = rows (length scenes) (λ i. name ++ field (getD scenes i 0) 10)
+
+-- The second block: the line of names, the opening's lines, then the loop's.
+abbrev pub showBlock : List ℕ → List ℕ → List ℕ
+showBlock u v = sceneTitle ++ sceneLines (partField Opening) u ++ sceneLines (partField Loop) v
+
+-- The first block, and for a counter-show the second, of what was written to the slices; or the refusal.
+abbrev pub comparisonText : Outcome → List ℕ → List ℕ → List ℕ
+comparisonText (Absent z) opening period = verdictBlock contained z
+comparisonText (Found z) opening period = verdictBlock missing z ++ showBlock (take (z .prefix) opening) (take (z .period) period)
+comparisonText (Refused r) opening period = refusalText r
+
+-- A show that was found lies within slices of these lengths.
+abbrev pub Lies : Outcome → ℕ → ℕ → Type 0
+Lies (Absent z) o p = Unit {0}
+Lies (Found z) o p = (z .prefix ≤ o) × (z .period ≤ p)
+Lies (Refused r) o p = Unit {0}

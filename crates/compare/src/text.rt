@@ -1,0 +1,78 @@
+// What the comparison prints, made in a lent slice block by block.
+use console::store;
+use inclusion::Comparison;
+use inclusion::Outcome;
+use numbers::put_field;
+use slices::wide;
+ghost use mathlib.Core.List.{_++_};
+ghost use Prim.Native.Nat.{_+_, _*_, _≤_};
+ghost use lib.ListN.{length};
+ghost use Rattle.numbers.specs.Digits.{field};
+ghost use Rattle.numbers.specs.Storing.{Stored};
+ghost use Rattle.console.specs.Printed.{Shows};
+ghost use Rattle.compare.specs.Text.{verdictBlock, sceneLines, showBlock, comparisonText, Lies};
+
+// Room for what is printed: the first block has at most 102 bytes, the second 11 and at most 29 for each of 8,192 scenes.
+pub const ROOM: usize = 237681;
+
+// The first block.
+fn put_verdict(verdict: &[u8], z: Comparison, out: &mut [u8], at: usize) -> usize
+    requires { ⌜ (length (now verdict) ≤ 10) × (at + 102 ≤ 18446744073709551615) ⌝ }
+    ensures { λ r. ⌜ Stored (now (out .entry)) at (verdictBlock (now (verdict .entry)) z) (now (out .exit)) r × (r ≤ at + 102) ⌝ }
+{
+    let named = store(b"verdict reached opening loop\n", out, at);
+    let judged = store(verdict, out, named);
+    let reached = put_field(z.reached, b' ', out, judged);
+    let opened = put_field(z.prefix, b' ', out, reached);
+    put_field(z.period, b'\n', out, opened)
+}
+
+// The line of a scene.
+fn put_scene(name: &[u8], scene: u8, out: &mut [u8], at: usize) -> usize
+    requires { ⌜ (length (now name) ≤ 8) × (at + 29 ≤ 18446744073709551615) ⌝ }
+    ensures { λ r. ⌜ Stored (now (out .entry)) at (now (name .entry) ++ field scene 10) (now (out .exit)) r × (r ≤ at + 29) ⌝ }
+{
+    let named = store(name, out, at);
+    put_field(wide(scene), b'\n', out, named)
+}
+
+// The lines of one part of a show.
+fn put_scenes(name: &[u8], scenes: &[u8], out: &mut [u8], at: usize) -> usize
+    requires { ⌜ (length (now name) ≤ 8) × (at + length (now scenes) * 29 ≤ 18446744073709551615) ⌝ }
+    ensures { λ r. ⌜ Stored (now (out .entry)) at (sceneLines (now (name .entry)) (now (scenes .entry))) (now (out .exit)) r × (r ≤ at + length (now (scenes .entry)) * 29) ⌝ }
+{
+    let mut p = at;
+    let mut i = 0;
+    while i < scenes.len() {
+        p = put_scene(name, scenes[i], out, p);
+        i += 1;
+    }
+    p
+}
+
+// The second block.
+fn put_show(u: &[u8], v: &[u8], out: &mut [u8], at: usize) -> usize
+    requires { ⌜ at + 11 + length (now u) * 29 + length (now v) * 29 ≤ 18446744073709551615 ⌝ }
+    ensures { λ r. ⌜ Stored (now (out .entry)) at (showBlock (now (u .entry)) (now (v .entry))) (now (out .exit)) r × (r ≤ at + 11 + length (now (u .entry)) * 29 + length (now (v .entry)) * 29) ⌝ }
+{
+    let named = store(b"part scene\n", out, at);
+    let opened = put_scenes(b"opening ", u, out, named);
+    put_scenes(b"loop ", v, out, opened)
+}
+
+// All of it, for every answer.
+pub fn comparison_text(answer: Outcome, opening: &[u8], period: &[u8], out: &mut [u8]) -> usize
+    requires { ⌜ Lies answer (length (now opening)) (length (now period)) × (length (now opening) ≤ 4096) × (length (now period) ≤ 4096) × (237681 ≤ length (now out)) ⌝ }
+    ensures { λ n. ⌜ Shows (comparisonText answer (now (opening .entry)) (now (period .entry))) (now (out .entry)) (now (out .exit)) n ⌝ }
+{
+    match answer {
+        Outcome::Absent(z) => put_verdict(b"contained ", z, out, 0),
+        Outcome::Found(z) => {
+            let at = put_verdict(b"missing ", z, out, 0);
+            let u = z.prefix;
+            let v = z.period;
+            put_show(&opening[..u], &period[..v], out, at)
+        }
+        Outcome::Refused(r) => console::refusal_text(r, out),
+    }
+}
