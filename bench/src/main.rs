@@ -22,11 +22,16 @@ const ROOM: usize = 8192;
 fn main() {
     println!("| case | Rust ms | library ms | ratio | ratio of the fastest |");
     println!("|---|---|---|---|---|");
+    let wanted = std::env::args().nth(1).unwrap_or_default();
     for (name, lasso) in inputs::lassos() {
-        time_verdict(&name, &lasso);
+        if name.contains(&wanted) {
+            time_verdict(&name, &lasso);
+        }
     }
     for (name, comparison) in inputs::comparisons() {
-        time_comparison(&name, &comparison);
+        if name.contains(&wanted) {
+            time_comparison(&name, &comparison);
+        }
     }
     println!();
     println!(

@@ -54,7 +54,8 @@ fn search_cells(
         r ⌝ }
 {
     let cells = sizes.pairs + sizes.pairs * sizes.widest;
-    if work.len() < cells {
+    let lent = work.len();
+    if lent < cells {
         return Outcome::Refused(refuse(22, Part::Work, cells));
     }
     first_lasso(first, second, sizes, opening, period, &mut work[..cells])

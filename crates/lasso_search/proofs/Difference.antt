@@ -19,10 +19,11 @@ use Rattle.fdfa.proofs.Inclusion.{butNot}
 use Rattle.packed.specs.Layout.{stateCount, sizeOf, leadingAt, progressAt, tableStep, decode}
 use Rattle.packed.proofs.Soundness.{valid-packable}
 use Rattle.pairing.specs.declared.Beside.{Beside}
+use Rattle.pairing.specs.declared.PairSizes.{PairSizes}
 use Rattle.pairing.specs.Pairs.{Alike, leadsOf, progressOf, marksOf, nextPair, sizesOf, Steps}
-use Rattle.pairing.proofs.Within.{few-progress, progress-steps, marks-read}
+use Rattle.pairing.proofs.Within.{few-pairs, few-widest, progress-steps, marks-read}
 use Rattle.lasso_search.specs.Lassos.{difference}
-use Rattle.lasso_search.specs.Codes.{Tabulated, EndReads, endsAt, Room}
+use Rattle.lasso_search.specs.Codes.{Tabulated, EndReads, endsAt, Room, CanFind}
 
 -- what a table that was written has
 pub tabulated : {b c : List ℕ} {t : Beside} {m : ℕ} (old : List ℕ) {out : List ℕ} → Steps b c t m → m * t .letters ≤ length old → out ≡ written (table m (t .letters) (nextPair b c t)) old
@@ -119,14 +120,42 @@ module _ {b c : List ℕ} (A : Alike b c) {n w : ℕ} (ne : n ≡ sizesOf b c .p
     all-within : difference b c .size q * n ≤ n * w
     all-within = omega (arith, mul-le-mul-right n within, mul-comm n w)
 
-  pub room-of : {marks cells : ℕ} → n * w ≤ marks → cells ≡ n + n * w → Room (difference b c) n 32768 marks (cells - (n - 1))
-  room-of {marks} {cells} m e = record {
+  pub room-of : {rows marks cells : ℕ} → w * difference b c .letters ≤ rows → n * w ≤ marks → cells ≡ n + n * w → Room (difference b c) n rows marks (cells - (n - 1))
+  room-of {rows} {marks} {cells} l m e = record {
     all = ne;
     leads = omega (arith, all-within 0 some, mul-le-mul-right n one, one-mul n);
-    rows-fit = λ q h. let i : q < difference b c .states = omega (arith, ne) in mul-le-mul (few-progress A (q / stateCount c) (q % stateCount c) (p-in A i) (r-in A i)) (A .first .header .few-letters);
+    rows-fit = λ q h. omega (arith, l, mul-le-mul-right (difference b c .letters) (within q h));
     marks-fit = λ q h. omega (arith, all-within q h);
     cells-fit = λ q h. omega (arith, all-within q h, some);
   }
     where
       one : 1 ≤ difference b c .size 0
       one = complete A .starts 0 (omega (arith, some, ne))
+
+-- tables, marks and cells of some lengths suffice
+module _ {b c : List ℕ} (A : Alike b c) {t : Beside} {z : PairSizes} (te : t ≡ leadsOf b c) (ze : z ≡ sizesOf b c) where
+  few-n : z .pairs ≤ 1024
+  few-n = omega (arith, ap (λ (z : PairSizes). z .pairs) ze, few-pairs A)
+
+  few-w : z .widest ≤ 1024
+  few-w = omega (arith, ap (λ (z : PairSizes). z .widest) ze, few-widest A)
+
+  few-s : t .letters ≤ 32
+  few-s = omega (arith, ap (λ (t : Beside). t .letters) te, A .first .header .few-letters)
+
+  pub pairs-fit : z .pairs * t .letters ≤ 32768
+  pairs-fit = mul-le-mul few-n few-s
+
+  pub widest-fits : z .widest * t .letters ≤ 32768
+  widest-fits = mul-le-mul few-w few-s
+
+  pub all-fit : z .pairs * z .widest ≤ 1048576
+  all-fit = mul-le-mul few-n few-w
+
+  pub can-find : {leads rows marks work : ℕ} → z .pairs * t .letters ≤ leads → z .widest * t .letters ≤ rows → z .pairs * z .widest ≤ marks → work ≡ z .pairs + z .pairs * z .widest → CanFind b c t (z .pairs) leads rows marks work
+  can-find {rows = rows} l r m w = record {
+    alike = A;
+    tables = te;
+    leads-fit = l;
+    room = room-of A (ap (λ (z : PairSizes). z .pairs) ze) (ap (λ (z : PairSizes). z .widest) ze) (subst (λ (s : ℕ). z .widest * s ≤ rows) (ap (λ (t : Beside). t .letters) te) r) m w;
+  }

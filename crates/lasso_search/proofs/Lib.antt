@@ -4,4 +4,5 @@ mod Leading
 pub mod Difference
 mod Lassos
 mod Rounds
+mod Candidates
 mod Written

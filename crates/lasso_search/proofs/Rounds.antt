@@ -12,7 +12,7 @@ use Rattle.search.specs.Words.{Word, _⊏_, _⊑_, same, less, run}
 use Rattle.search.specs.Queue.{stateAt}
 use Rattle.search.specs.Search.{Space, Ends, joint, Ready}
 use Rattle.search.proofs.Shortlex.{⊑-trans}
-use Rattle.lasso_search.specs.Codes.{AcceptedPeriod, AcceptedWords, FirstAt, Tabulated, Leads}
+use Rattle.lasso_search.specs.Codes.{AcceptedPeriod, AcceptedWords, FirstAt, Tabulated, Round}
 use Rattle.lasso_search.proofs.Joined.{aimAt, ending, ending-first, no-ending}
 
 -- the cells behind the first n, as they are lent and come back
@@ -37,12 +37,6 @@ module _ (n : ℕ) (work : List ℕ) (h : n ≤ length work) where
 
     pub returned-tail : take (length work - n) (drop n (returned ys)) ≡ ys
     returned-tail = ap (take (length work - n)) (drop-at (take n work) _ n (length-take-le n work h)) ∙ take-at ys _ (length work - n) (l ∙ tail-long)
-
--- the states of the codes below i have no accepted loop
-pub record Round (P : Fdfa) (front : List ℕ) (reached i : ℕ) : Type 0 where
-  pub leads : Leads (P .step) (P .letters) (P .states) front reached
-  pub upto : i ≤ reached
-  pub none : (j : ℕ) → j < i → (v : Word) → AcceptedPeriod P (stateAt 0 front j) v → ⊥
 
 module _ {P : Fdfa} {front : List ℕ} {reached i : ℕ} (O : Round P front reached i) where
   pub round-in : {q : ℕ} → i < reached → q ≡ stateAt 0 front i → q < P .states

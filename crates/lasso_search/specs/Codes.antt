@@ -10,14 +10,16 @@ use lib.ListN.{length, getD, take, drop}
 use Rattle.fdfa.specs.Family.{Fdfa, Closed}
 use Rattle.fdfa.specs.Inclusion.{Counts, Reached, Accepted}
 use Rattle.pairing.specs.declared.Beside.{Beside}
+use Rattle.pairing.specs.Pairs.{Alike, leadsOf}
 use Rattle.search.specs.Words.{Word, ε, _⊏_, _⊑_, run, Over, letters}
 use Rattle.search.specs.Queue.{stateAt}
 use Rattle.search.specs.Paths.{Path, Readable}
 use Rattle.search.specs.Search.{rowStep}
 use Rattle.fdfa.specs.Enumeration.{lasso}
 use Rattle.slices.specs.Refusals.{unless}
-use Rattle.lasso_search.specs.Lassos.{reportOf, outcomeSays, Lent, roomFault, lassoWritten}
+use Rattle.lasso_search.specs.Lassos.{difference, reportOf, outcomeSays, Lent, roomFault, lassoWritten}
 use Rattle.lasso_search.specs.declared.Outcome.{Outcome}
+use Rattle.lasso_search.specs.declared.Candidate.{Candidate}
 use Rattle.lasso_search.specs.declared.Codes.{Codes}
 use Rattle.lasso_search.specs.declared.Codes.the-variants.{Absent, Found}
 
@@ -102,6 +104,28 @@ pub record Prepared (P : Fdfa) (n q : ℕ) (rows marks : List ℕ) (k : ℕ) : T
   pub is : 0 < k → k ≡ P .size q
   pub tabled : 0 < k → Tabulated rows k (P .letters) (P .progress q)
   pub marked : 0 < k → Marked (take (k * n) marks) n q k (P .accepting q)
+
+-- The states of the codes below i have no accepted period.
+pub record Round (P : Fdfa) (front : List ℕ) (reached i : ℕ) : Type 0 where
+  pub leads : Leads (P .step) (P .letters) (P .states) front reached
+  pub upto : i ≤ reached
+  pub none : (j : ℕ) → j < i → (v : Word) → AcceptedPeriod P (stateAt 0 front j) v → ⊥
+
+-- The next code from `from` on whose state the search is prepared for, or none of those reached. The first n − 1 cells are as before.
+pub record Next (P : Fdfa) (n reached from : ℕ) (rows marks before work : List ℕ) (c : Candidate) : Type 0 where
+  pub kept : take (n - 1) work ≡ take (n - 1) before
+  pub later : from ≤ c .code
+  pub round : Round P (take (n - 1) work) reached (c .code)
+  pub state : c .code < reached → c .state ≡ stateAt 0 (take (n - 1) work) (c .code)
+  pub some : c .code < reached → 0 < c .count
+  pub prepared : c .code < reached → Prepared P n (c .state) rows marks (c .count)
+
+-- Tables, marks and cells of these lengths suffice for the whole search.
+pub record CanFind (b c : List ℕ) (t : Beside) (n leads rows marks work : ℕ) : Type 0 where
+  pub alike : Alike b c
+  pub tables : t ≡ leadsOf b c
+  pub leads-fit : n * t .letters ≤ leads
+  pub room : Room (difference b c) n rows marks (work - (n - 1))
 
 -- R, and none or the first accepted and normalized lasso, by its codes.
 abbrev pub Located : Fdfa → List ℕ → Codes → Type 0

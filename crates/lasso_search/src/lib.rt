@@ -34,6 +34,13 @@ pub enum Codes {
     Found(usize, usize, usize),
 }
 
+// A leading state to search from: its code, its number, and how many pairs of progress states it has.
+pub struct Candidate {
+    pub code: usize,
+    pub state: usize,
+    pub count: usize,
+}
+
 // The search of two sheets with as many work cells as it needs, its answer, and the cells cleared.
 pub fn first_lasso(
     first: &[u8],
@@ -51,7 +58,7 @@ pub fn first_lasso(
     ensures clears { λ _. ⌜ now (work .exit) ≡ replicate (length (now (work .entry))) 0 ⌝ }
 {
     let n = sizes.pairs;
-    let found = locate(first, second, n, work);
+    let found = locate(first, second, sizes, work);
     match found {
         Codes::Absent(reached) => {
             search::clear(work);

@@ -1,7 +1,9 @@
 // The search for the first lasso: pairs of leading states, and for each the combinations with two progress states.
+use crate::Candidate;
 use crate::Codes;
 use crate::marking::mark;
 use pairing::Beside;
+use pairing::PairSizes;
 use search::Expansion;
 ghost use mathlib.Core.Path.{_≡_};
 ghost use mathlib.Core.Bool.{Bool, true, false};
@@ -10,7 +12,7 @@ ghost use lib.ListN.{length, take};
 ghost use Rattle.search.specs.Words.{Word, ε, run, Over};
 ghost use Rattle.pairing.specs.Pairs.{Alike, leadsOf, sizesOf};
 ghost use Rattle.lasso_search.specs.Lassos.{difference};
-ghost use Rattle.lasso_search.specs.Codes.{Tabulated, Marked, Leads, Room, Prepared, Located};
+ghost use Rattle.lasso_search.specs.Codes.{Tabulated, Marked, Leads, Room, Round, Prepared, Next, CanFind, Located};
 
 // Searches the leading states alone, the progress standing still; the number of those reached.
 fn reach(leads: &[u16], n: usize, letters: usize, marks: &mut [u8], cells: &mut [u64]) -> usize
@@ -72,41 +74,76 @@ fn prepare(
     count
 }
 
+// The next leading state, by codes from `from` on, that some period may end at, its table and marks made. Its code is `reached` where
+// there is none.
+fn next_candidate(
+    first: &[u8],
+    second: &[u8],
+    t: Beside,
+    n: usize,
+    reached: usize,
+    from: usize,
+    rows: &mut [u16],
+    marks: &mut [u8],
+    work: &mut [u64],
+) -> Candidate
+    requires { ⌜ Alike (now first) (now second) × (t ≡ leadsOf (now first) (now second)) ⌝ }
+    requires { ⌜ Room (difference (now first) (now second)) n (length (now rows)) (length (now marks)) (length (now work) - (n - 1)) ⌝ }
+    requires { ⌜ Round (difference (now first) (now second)) (take (n - 1) (now work)) reached from ⌝ }
+    ensures { λ r. ⌜ Next (difference (now (first .entry)) (now (second .entry))) n reached from
+        (now (rows .exit)) (now (marks .exit)) (now (work .entry)) (now (work .exit)) r ⌝ }
+{
+    let front = n - 1;
+    let mut i = from;
+    while i < reached {
+        let q = search::state_of(&work[..front], i, 0);
+        let count = prepare(first, second, t, n, q, rows, marks, &mut work[front..]);
+        if count > 0 {
+            return Candidate {
+                code: i,
+                state: q,
+                count,
+            };
+        }
+        i += 1;
+    }
+    Candidate {
+        code: reached,
+        state: 0,
+        count: 0,
+    }
+}
+
 // The first lasso, by the codes that the cells have for it: the pairs of leading states in the order of their first prefixes, and for
-// each the combinations in the order of their first periods.
+// each the combinations in the order of their first periods. What is made for a pair stands in a function of its own that is called
+// twice, so that it takes no registers from the inner loop.
 fn find(
     first: &[u8],
     second: &[u8],
     t: Beside,
     n: usize,
+    leads: &mut [u16],
+    rows: &mut [u16],
     marks: &mut [u8],
     work: &mut [u64],
 ) -> Codes
-    requires { ⌜ Alike (now first) (now second) × (t ≡ leadsOf (now first) (now second)) × (n ≡ difference (now first) (now second) .states) ⌝ }
-    requires { ⌜ Room (difference (now first) (now second)) n 32768 (length (now marks)) (length (now work) - (n - 1)) ⌝ }
+    requires { ⌜ CanFind (now first) (now second) t n (length (now leads)) (length (now rows)) (length (now marks)) (length (now work)) ⌝ }
     ensures { λ r. ⌜ Located (difference (now (first .entry)) (now (second .entry))) (now (work .exit)) r ⌝ }
 {
     let front = n - 1;
-    let mut leads = [0u16; 32768];
-    pairing::tabulate(first, second, t, n, &mut leads);
-    let reached = reach(&leads, n, t.letters, &mut marks[..n], &mut work[..n]);
-    let mut rows = [0u16; 32768];
+    pairing::tabulate(first, second, t, n, leads);
+    let reached = reach(leads, n, t.letters, &mut marks[..n], &mut work[..n]);
     let mut out = Codes::Absent(reached);
-    let mut i = 0;
-    'search: while i < reached {
-        let q = search::state_of(&work[..front], i, 0);
-        let count = prepare(first, second, t, n, q, &mut rows, marks, &mut work[front..]);
-        if count == 0 {
-            i += 1;
-            continue;
-        }
-        let all = count * n;
+    let mut c = next_candidate(first, second, t, n, reached, 0, rows, marks, work);
+    'search: while c.code < reached {
+        let q = c.state;
+        let all = c.count * n;
         let mut total = 1;
         let mut h = 0;
         while h < total {
             let step = search::expand(
-                &leads,
-                &rows,
+                leads,
+                rows,
                 n,
                 t.letters,
                 q,
@@ -117,7 +154,7 @@ fn find(
             );
             match step {
                 Expansion::Ending(code) => {
-                    out = Codes::Found(reached, i, code);
+                    out = Codes::Found(reached, c.code, code);
                     break 'search;
                 }
                 Expansion::On(codes) => {
@@ -126,39 +163,58 @@ fn find(
             }
             h += 1;
         }
-        i += 1;
+        c = next_candidate(first, second, t, n, reached, c.code + 1, rows, marks, work);
     }
     out
 }
 
-// The search with marks for 8,192 combinations, and for as many as there can be.
-fn find_few(first: &[u8], second: &[u8], t: Beside, n: usize, work: &mut [u64]) -> Codes
-    requires { ⌜ Alike (now first) (now second) × (t ≡ leadsOf (now first) (now second)) × (n ≡ difference (now first) (now second) .states) ⌝ }
-    requires { ⌜ Room (difference (now first) (now second)) n 32768 8192 (length (now work) - (n - 1)) ⌝ }
+// The search with small tables and marks for 8,192 combinations; with tables for any sheets; and with marks for as many combinations
+// as there can be.
+fn find_small(first: &[u8], second: &[u8], t: Beside, n: usize, work: &mut [u64]) -> Codes
+    requires { ⌜ CanFind (now first) (now second) t n 2048 2048 8192 (length (now work)) ⌝ }
     ensures { λ r. ⌜ Located (difference (now (first .entry)) (now (second .entry))) (now (work .exit)) r ⌝ }
 {
+    let mut leads = [0u16; 2048];
+    let mut rows = [0u16; 2048];
     let mut marks = [0u8; 8192];
-    find(first, second, t, n, &mut marks, work)
+    find(first, second, t, n, &mut leads, &mut rows, &mut marks, work)
+}
+
+fn find_few(first: &[u8], second: &[u8], t: Beside, n: usize, work: &mut [u64]) -> Codes
+    requires { ⌜ CanFind (now first) (now second) t n 32768 32768 8192 (length (now work)) ⌝ }
+    ensures { λ r. ⌜ Located (difference (now (first .entry)) (now (second .entry))) (now (work .exit)) r ⌝ }
+{
+    let mut leads = [0u16; 32768];
+    let mut rows = [0u16; 32768];
+    let mut marks = [0u8; 8192];
+    find(first, second, t, n, &mut leads, &mut rows, &mut marks, work)
 }
 
 fn find_many(first: &[u8], second: &[u8], t: Beside, n: usize, work: &mut [u64]) -> Codes
-    requires { ⌜ Alike (now first) (now second) × (t ≡ leadsOf (now first) (now second)) × (n ≡ difference (now first) (now second) .states) ⌝ }
-    requires { ⌜ Room (difference (now first) (now second)) n 32768 1048576 (length (now work) - (n - 1)) ⌝ }
+    requires { ⌜ CanFind (now first) (now second) t n 32768 32768 1048576 (length (now work)) ⌝ }
     ensures { λ r. ⌜ Located (difference (now (first .entry)) (now (second .entry))) (now (work .exit)) r ⌝ }
 {
+    let mut leads = [0u16; 32768];
+    let mut rows = [0u16; 32768];
     let mut marks = [0u8; 1048576];
-    find(first, second, t, n, &mut marks, work)
+    find(first, second, t, n, &mut leads, &mut rows, &mut marks, work)
 }
 
-// The first lasso by its codes, of n pairs of leading states. A player lends 8,192 cells, and needs no room for more marks.
-pub fn locate(first: &[u8], second: &[u8], n: usize, work: &mut [u64]) -> Codes
-    requires { ⌜ Alike (now first) (now second) × (n ≡ sizesOf (now first) (now second) .pairs) × (length (now work) ≡ n + n * sizesOf (now first) (now second) .widest) ⌝ }
+// The first lasso by its codes. A player lends 8,192 cells, and needs no room for more marks.
+pub fn locate(first: &[u8], second: &[u8], sizes: PairSizes, work: &mut [u64]) -> Codes
+    requires { ⌜ Alike (now first) (now second) × (sizes ≡ sizesOf (now first) (now second)) × (length (now work) ≡ sizes .pairs + sizes .pairs * sizes .widest) ⌝ }
     ensures { λ r. ⌜ Located (difference (now (first .entry)) (now (second .entry))) (now (work .exit)) r ⌝ }
 {
     let t = pairing::leads(first, second);
-    if work.len() <= 8192 {
-        find_few(first, second, t, n, work)
-    } else {
-        find_many(first, second, t, n, work)
+    let n = sizes.pairs;
+    if work.len() > 8192 {
+        return find_many(first, second, t, n, work);
     }
+    if n * t.letters > 2048 {
+        return find_few(first, second, t, n, work);
+    }
+    if sizes.widest * t.letters > 2048 {
+        return find_few(first, second, t, n, work);
+    }
+    find_small(first, second, t, n, work)
 }

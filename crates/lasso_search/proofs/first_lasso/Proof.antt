@@ -50,10 +50,7 @@ first : (c : tie.After-found2) → let f = c .before .before .before .before in 
 first c = let f = c .before .before .before .before in subst (Located (P f) (cells f)) (c .found2 .given .1) (f .locate .ensures)
 
 locate-requires : tie.Need-locate-requires
-locate-requires c κs =
-    let s = c .before .before .before .before .before .before in
-    let p = s .pre in
-    (p .0, ap (λ (z : PairSizes). z .pairs) (p .1), p .2 ∙ (λ i. s .args .sizes .pairs + s .args .sizes .pairs * p .1 i .widest))
+locate-requires c κs = search needs
 
 enum-known-found : tie.Need-enum-known-found
 enum-known-found c = search needs

@@ -17,6 +17,9 @@ Inv-loop bytes low limit at count i₀ i = (i ≤ count) × ((k : ℕ) → k < i
 abbrev μ-loop : tie.MeasureT-loop
 μ-loop bytes low limit at count i₀ i = count - i
 
+is-inside-requires : tie.Need-is-inside-requires Inv-loop μ-loop
+is-inside-requires c κs = search needs
+
 loop-holds : tie.Need-loop-holds Inv-loop μ-loop
 loop-holds c = search needs
 
@@ -33,12 +36,15 @@ is-outside-requires : tie.Need-is-outside-requires Inv-loop μ-loop
 is-outside-requires c κs = search needs
 
 returns : tie.Need-returns Inv-loop μ-loop
+returns c = c .before .is-inside .ensures (c .if1 .taken)
+
+returns-2 : tie.Need-returns-2 Inv-loop μ-loop
 unfolding firstOutside
-returns c =
+returns-2 c =
     let i = c .before .before .before .before .before in
     sym
     (least-is _ _ (i .loop .i) (search needs) (i .loop .inv .1)
-    (sym (ap (outside _ _) (c .before .before .wide .ensures)) ∙ (sym (c .before .is-outside .ensures) ∙ c .if1 .taken)))
+    (sym (ap (outside _ _) (c .before .before .wide .ensures)) ∙ (sym (c .before .is-outside .ensures) ∙ c .if2 .taken)))
 
 add-i : tie.Need-add-i Inv-loop μ-loop
 add-i c = search needs
@@ -50,12 +56,12 @@ loop-again : tie.Need-loop-again Inv-loop μ-loop
 loop-again c = (
   search needs,
   below-more _ _ (c .before .before .before .before .before .loop .inv .1)
-      (λ e. true≢false (sym e ∙ (sym (ap (outside _ _) (c .before .before .wide .ensures)) ∙ (sym (c .before .is-outside .ensures) ∙ c .if1 .left)))),
+      (λ e. true≢false (sym e ∙ (sym (ap (outside _ _) (c .before .before .wide .ensures)) ∙ (sym (c .before .is-outside .ensures) ∙ c .if2 .left)))),
 )
 
-returns-2 : tie.Need-returns-2 Inv-loop μ-loop
+returns-3 : tie.Need-returns-3 Inv-loop μ-loop
 unfolding firstOutside
-returns-2 c = sym (least-none _ _ (λ k h. c .before .loop .inv .1 k (omega arith)))
+returns-3 c = sym (least-none _ _ (λ k h. c .before .loop .inv .1 k (omega arith)))
 
 pub first-outside-spec : {M : Type 1} → statement M
 first-outside-spec =
@@ -63,13 +69,15 @@ first-outside-spec =
     (tie.spec
     Inv-loop
     μ-loop
+    is-inside-requires
+    returns
     loop-holds
     add-wide
     shared-slice-read-wide
     wide-requires
     is-outside-requires
-    returns
+    returns-2
     add-i
     loop-less
     loop-again
-    returns-2)
+    returns-3)
