@@ -20,19 +20,19 @@ room-as R re me we = record {
   all = R .all;
   leads = omega (arith, R .leads, me);
   rows-fit = λ q h. omega (arith, R .rows-fit q h, re);
-  marks-fit = λ q h. omega (arith, R .marks-fit q h, me);
+  status-fit = λ q h. omega (arith, R .status-fit q h, me);
   cells-fit = λ q h. omega (arith, R .cells-fit q h, we);
 }
 
 -- the search stands at the candidate c
-pub record Standing (P : Fdfa) (n s reached : ℕ) (leads rows marks work : List ℕ) (c : Candidate) : Type 0 where
+pub record Standing (P : Fdfa) (n s reached : ℕ) (leads rows status work : List ℕ) (c : Candidate) : Type 0 where
   pub complete : Complete P
   pub letters : s ≡ P .letters
   pub table : Tabulated leads n s (P .step)
-  pub room : Room P n (length rows) (length marks) (length work - (n - 1))
-  pub next : Next P n reached 0 rows marks work work c
+  pub room : Room P n (length rows) (length status) (length work - (n - 1))
+  pub next : Next P n reached 0 rows status work work c
 
-module _ {P : Fdfa} {n s reached : ℕ} {leads rows marks work : List ℕ} {c : Candidate} (F : Standing P n s reached leads rows marks work c) where
+module _ {P : Fdfa} {n s reached : ℕ} {leads rows status work : List ℕ} {c : Candidate} (F : Standing P n s reached leads rows status work c) where
   pub some : 0 < n
   some = omega (arith, F .complete .start, F .room .all)
 
@@ -55,8 +55,8 @@ module _ {P : Fdfa} {n s reached : ℕ} {leads rows marks work : List ℕ} {c : 
     q-below : c .state < n
     q-below = omega (arith, q-in, F .room .all)
 
-    pub all-room : c .count * n ≤ length marks
-    all-room = omega (arith, all-is, F .room .marks-fit (c .state) q-below)
+    pub all-room : c .count * n ≤ length status
+    all-room = omega (arith, all-is, F .room .status-fit (c .state) q-below)
 
     leads-are : Tabulated leads (P .states) (P .letters) (P .step)
     leads-are = subst₂ (λ (j t : ℕ). Tabulated leads j t (P .step)) (F .room .all) (F .letters) (F .table)
@@ -64,16 +64,16 @@ module _ {P : Fdfa} {n s reached : ℕ} {leads rows marks work : List ℕ} {c : 
     rows-are : Tabulated rows (c .count) (P .letters) (P .progress (c .state))
     rows-are = F .next .prepared here .tabled pos
 
-    pub begins : Ready leads rows n s (c .state) (take (c .count * n) marks) (take (length work - (n - 1)) (drop (n - 1) work)) 1 0 (aim n)
+    pub begins : Ready leads rows n s (c .state) (take (c .count * n) status) (take (length work - (n - 1)) (drop (n - 1) work)) 1 0 (aim n)
     begins =
-        begin (F .table) (subst (λ (t : ℕ). Tabulated rows (c .count) t (P .progress (c .state))) (sym (F .letters)) rows-are) some q-below pos (P .accepting (c .state)) (F .next .prepared here .marked pos)
+        begin (F .table) (subst (λ (t : ℕ). Tabulated rows (c .count) t (P .progress (c .state))) (sym (F .letters)) rows-are) some q-below pos (P .accepting (c .state)) (F .next .prepared here .fresh pos)
         (omega (arith, tail-long (n - 1) work front-in, all-is, F .room .cells-fit (c .state) q-below))
 
     -- no period from the candidate is accepted
-    pub exhausts : {marks′ cells : List ℕ} {total head : ℕ} → Ready leads rows n s (c .state) marks′ cells total head (aim n) → total ≤ head → Round P (take (n - 1) work) reached (c .code + 1)
-    exhausts {marks′} {cells} {total} {head} A done =
+    pub exhausts : {status′ cells : List ℕ} {total head : ℕ} → Ready leads rows n s (c .state) status′ cells total head (aim n) → total ≤ head → Round P (take (n - 1) work) reached (c .code + 1)
+    exhausts {status′} {cells} {total} {head} A done =
         round-next (F .next .round) here (F .next .state here)
-        (exhausted P leads-are rows-are q-in pos (subst₂ (λ (j t : ℕ). Ready leads rows j t (c .state) marks′ cells total head (aim j)) (F .room .all) (F .letters) A) done)
+        (exhausted P leads-are rows-are q-in pos (subst₂ (λ (j t : ℕ). Ready leads rows j t (c .state) status′ cells total head (aim j)) (F .room .all) (F .letters) A) done)
 
     -- an ending is the first lasso
     pub finds : {work′ : List ℕ} {code : ℕ} → take (n - 1) work′ ≡ take (n - 1) work → n - 1 ≤ length work′ → Ends (joint leads rows n s (c .state) (aim n)) (drop (n - 1) work′) code → Located P work′ (Found reached (c .code) code)

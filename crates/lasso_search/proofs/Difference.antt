@@ -105,7 +105,7 @@ module _ {b c : List ℕ} (A : Alike b c) where
         let k′ : k ≡ sizeOf b p * sizeOf c r = ke ∙ (λ i. s′ i * g′ i .width) in
         subst (λ (x : Beside). Progress b c q x m k) (sym g′) (subst (λ (x : Beside). Progress b c q (progressOf b c p r) x k) (sym m′) (subst (Progress b c q (progressOf b c p r) (marksOf b c p r)) (sym k′) canonical))
 
--- marks and cells for all combinations suffice
+-- status and cells for all combinations suffice
 module _ {b c : List ℕ} (A : Alike b c) {n w : ℕ} (ne : n ≡ sizesOf b c .pairs) (we : w ≡ sizesOf b c .widest) where
   some : 0 < n
   some = omega (arith, ne, complete A .start)
@@ -120,19 +120,19 @@ module _ {b c : List ℕ} (A : Alike b c) {n w : ℕ} (ne : n ≡ sizesOf b c .p
     all-within : difference b c .size q * n ≤ n * w
     all-within = omega (arith, mul-le-mul-right n within, mul-comm n w)
 
-  pub room-of : {rows marks cells : ℕ} → w * difference b c .letters ≤ rows → n * w ≤ marks → cells ≡ n + n * w → Room (difference b c) n rows marks (cells - (n - 1))
-  room-of {rows} {marks} {cells} l m e = record {
+  pub room-of : {rows status cells : ℕ} → w * difference b c .letters ≤ rows → n * w ≤ status → cells ≡ n + n * w → Room (difference b c) n rows status (cells - (n - 1))
+  room-of {rows} {status} {cells} l m e = record {
     all = ne;
     leads = omega (arith, all-within 0 some, mul-le-mul-right n one, one-mul n);
     rows-fit = λ q h. omega (arith, l, mul-le-mul-right (difference b c .letters) (within q h));
-    marks-fit = λ q h. omega (arith, all-within q h);
+    status-fit = λ q h. omega (arith, all-within q h);
     cells-fit = λ q h. omega (arith, all-within q h, some);
   }
     where
       one : 1 ≤ difference b c .size 0
       one = complete A .starts 0 (omega (arith, some, ne))
 
--- tables, marks and cells of some lengths suffice
+-- tables, status and cells of some lengths suffice
 module _ {b c : List ℕ} (A : Alike b c) {t : Beside} {z : PairSizes} (te : t ≡ leadsOf b c) (ze : z ≡ sizesOf b c) where
   few-n : z .pairs ≤ 1024
   few-n = omega (arith, ap (λ (z : PairSizes). z .pairs) ze, few-pairs A)
@@ -152,7 +152,7 @@ module _ {b c : List ℕ} (A : Alike b c) {t : Beside} {z : PairSizes} (te : t �
   pub all-fit : z .pairs * z .widest ≤ 1048576
   all-fit = mul-le-mul few-n few-w
 
-  pub can-find : {leads rows marks work : ℕ} → z .pairs * t .letters ≤ leads → z .widest * t .letters ≤ rows → z .pairs * z .widest ≤ marks → work ≡ z .pairs + z .pairs * z .widest → CanFind b c t (z .pairs) leads rows marks work
+  pub can-find : {leads rows status work : ℕ} → z .pairs * t .letters ≤ leads → z .widest * t .letters ≤ rows → z .pairs * z .widest ≤ status → work ≡ z .pairs + z .pairs * z .widest → CanFind b c t (z .pairs) leads rows status work
   can-find {rows = rows} l r m w = record {
     alike = A;
     tables = te;

@@ -15,12 +15,12 @@ use Rattle.search.specs.Words.{Word, ε, _·_, _⊑_, run, Over}
 use Rattle.search.specs.Queue.{met}
 use Rattle.search.specs.Search.{Space, reach, Bounded, Search, Ends, rowStep, Tables, Aim, joint, Ready}
 use Rattle.search.proofs.Product.{run-within, prod-run}
-use Rattle.search.proofs.Marks.{met-none}
+use Rattle.search.proofs.Status.{met-none}
 use Rattle.search.proofs.Letters.{word}
 use Rattle.search.proofs.Theory.{search-none}
 use Rattle.search.proofs.Joint.{bounded}
 use Rattle.search.proofs.Outcomes.{init}
-use Rattle.lasso_search.specs.Codes.{Tabulated, freshAt, Marked}
+use Rattle.lasso_search.specs.Codes.{Tabulated, freshAt, Fresh}
 
 -- two automata with the same steps run alike
 run-same : {s m : ℕ} {f g : ℕ → ℕ → ℕ} → Closed s m g → ((q a : ℕ) → q < m → a < s → f q a ≡ g q a) → {q : ℕ} → q < m → (w : Word) → Over s w → run f q w ≡ run g q w
@@ -55,7 +55,7 @@ module _ {leads rows : List ℕ} {n k s : ℕ} {L R : ℕ → ℕ → ℕ} (l : 
     pub joint-row : (w : Word) → Over s w → reach (joint leads rows n s root aim) w / n ≡ run R 0 w
     joint-row w o = ap (λ (x : ℕ). x / n) (joint-run w o) ∙ digits-div (run R 0 w) (run-within (l .closed) rn w o)
 
--- the marks before a search, and what is looked for
+-- the status before a search, and what is looked for
 abbrev pub aimAt : ℕ → ℕ → ℕ → (ℕ → Bool) → Aim
 aimAt n q k ends = record { rows = k; lo = 1; fresh = freshAt n q ends }
 
@@ -66,7 +66,7 @@ fresh-range n q ends x = by (eqb (x % n) q && ends (x / n))
     by true = (omega arith, omega arith)
     by false = (omega arith, omega arith)
 
--- a mark of 2 says that the leading state is q, and that the row ends
+-- a status of 2 says that the leading state is q, and that the row ends
 pub fresh-says : (n q : ℕ) (ends : ℕ → Bool) (x : ℕ) → freshAt n q ends x ≡ 2 → (x % n ≡ q) × (ends (x / n) ≡ true)
 fresh-says n q ends x e = by (eqb (x % n) q && ends (x / n)) refl
   where
@@ -82,19 +82,19 @@ module _ {leads rows : List ℕ} {n k s : ℕ} {L R : ℕ → ℕ → ℕ} (l : 
   J = joint leads rows n s q (aimAt n q k ends)
 
   -- a search of combinations can begin
-  pub begin : {marks cells : List ℕ} → Marked marks n q k ends → k * n + 1 ≤ length cells → Ready leads rows n s q marks cells 1 0 (aimAt n q k ends)
-  begin {marks} m room = record {
+  pub begin : {status cells : List ℕ} → Fresh status n q k ends → k * n + 1 ≤ length cells → Ready leads rows n s q status cells 1 0 (aimAt n q k ends)
+  begin {status} m room = record {
     tables = tables l r some;
     bounded = B;
     leading = qn;
-    search = init (joint leads rows n s q (aimAt n q k ends)) (B .starts) (m .long) room (omega arith) (omega (arith, met-none marks met))
+    search = init (joint leads rows n s q (aimAt n q k ends)) (B .starts) (m .long) room (omega arith) (omega (arith, met-none status met))
         (λ x h z. absurd (omega (arith, fresh-range n q ends x, m .each x h, z))) (λ z. absurd (omega arith)) (λ x h z. m .each x h);
   }
     where
       B : Bounded (joint leads rows n s q (aimAt n q k ends))
       B = bounded {aim = aimAt n q k ends} (tables l r some) qn rk (omega arith) (λ x h. fresh-range n q ends x)
 
-      met : (i : ℕ) → i < length marks → 1 ≤ getD marks i 0
+      met : (i : ℕ) → i < length status → 1 ≤ getD status i 0
       met i h = rw (m .each i (rw (← m .long) h)) (fresh-range n q ends i .0)
 
   -- an ending is a period that leads back and ends
@@ -110,5 +110,5 @@ module _ {leads rows : List ℕ} {n k s : ℕ} {L R : ℕ → ℕ → ℕ} (l : 
   pub ending-first : {cells : List ℕ} {code : ℕ} (E : Ends J cells code) (v : Word) → Over s v → (v ≡ ε → ⊥) → run L q v ≡ q → ends (run R 0 v) ≡ true → E .word ⊑ v
   ending-first E v o ne e t = E .least v o ne (back-fresh v o e t)
 
-  pub no-ending : (B : Bounded J) {marks cells : List ℕ} {total head : ℕ} → Search J marks cells total head 0 → total ≤ head → (v : Word) → Over s v → (v ≡ ε → ⊥) → run L q v ≡ q → ends (run R 0 v) ≡ true → ⊥
+  pub no-ending : (B : Bounded J) {status cells : List ℕ} {total head : ℕ} → Search J status cells total head 0 → total ≤ head → (v : Word) → Over s v → (v ≡ ε → ⊥) → run L q v ≡ q → ends (run R 0 v) ≡ true → ⊥
   no-ending B S done v o ne e t = search-none B S done v o ne (back-fresh v o e t)

@@ -12,14 +12,14 @@ use Rattle.search.specs.Words.{Word, ε, _·_, run, Over, letters}
 use Rattle.search.specs.Queue.{placeAt, met}
 use Rattle.search.specs.Paths.{Path, at-root, at-step}
 use Rattle.search.specs.Search.{Space, reach, Bounded, Search, Ends, Aim, joint, Ready}
-use Rattle.search.proofs.Marks.{met-none, met-set, counts}
+use Rattle.search.proofs.Status.{met-none, met-set, counts}
 use Rattle.search.proofs.Letters.{letters-over, walk-letters, word, word-over, run-word}
 use Rattle.search.proofs.Theory.{search-all, search-rises}
 use Rattle.search.proofs.Steps.{path-of}
 use Rattle.search.proofs.Joint.{bounded, state-is}
 use Rattle.search.proofs.Outcomes.{init, codes-few}
 use Rattle.lasso_search.specs.Codes.{Tabulated, Leads}
-use Rattle.lasso_search.proofs.Marks.{getD-replicate}
+use Rattle.lasso_search.proofs.Status.{getD-replicate}
 use Rattle.lasso_search.proofs.Joined.{tables, joint-run}
 
 -- an automaton of one state that stands still
@@ -44,10 +44,10 @@ abbrev pub everywhere : Aim
 everywhere = record { rows = 1; lo = 0; fresh = λ x. 1 }
 
 -- the root is met, and no other state
-pub record Rooted (marks : List ℕ) (n : ℕ) : Type 0 where
-  pub long : length marks ≡ n
-  pub root : getD marks 0 0 ≡ 0
-  pub others : (x : ℕ) → x < n → (x ≡ 0 → ⊥) → getD marks x 0 ≡ 1
+pub record Rooted (status : List ℕ) (n : ℕ) : Type 0 where
+  pub long : length status ≡ n
+  pub root : getD status 0 0 ≡ 0
+  pub others : (x : ℕ) → x < n → (x ≡ 0 → ⊥) → getD status x 0 ≡ 1
 
 pub rooted : (n : ℕ) → 0 < n → Rooted (set (replicate n 1) 0 0) n
 rooted n h = record {
@@ -116,8 +116,8 @@ module _ {leads : List ℕ} {n s : ℕ} {L : ℕ → ℕ → ℕ} (l : Tabulated
   place-take m cells (suc i) h = rw (ne-eqb (suc i) 0 (λ z. omega arith)) (ap (λ (x : ℕ). x % 1073741824) (getD-take m cells (suc i - 1) 0 (omega arith)))
 
   -- a search to the end finds what prefixes reach
-  pub leads-of : {marks cells : List ℕ} {total : ℕ} → Search J marks cells total total 0 → Leads L s n (take (n - 1) cells) total
-  leads-of {marks} {cells} {total} S = record {
+  pub leads-of : {status cells : List ℕ} {total : ℕ} → Search J status cells total total 0 → Leads L s n (take (n - 1) cells) total
+  leads-of {status} {cells} {total} S = record {
     W = S .W;
     some = S .some;
     most = few;
@@ -128,7 +128,7 @@ module _ {leads : List ℕ} {n s : ℕ} {L : ℕ → ℕ → ℕ} (l : Tabulated
     rises = search-rises B S;
     all = λ u o. let h = search-all B S (omega arith) u o in (h .at, h .below, sym (reach-is (S .W (h .at)) (S .over (h .at) (h .below))) ∙ (h .state ∙ reach-is u o), h .early);
     counted = subst₂ (Counts (Reached s L)) (S .size ∙ one-row) (omega (arith, S .counted))
-        (counts (Reached s L) marks
+        (counts (Reached s L) status
         (λ x h z. let m = S .by x (rw (← S .size) h) z in record { by = letters (S .W (m .0)); over = letters-over (S .W (m .0)) (S .over (m .0) (m .2)); goes = walk-letters L 0 (S .W (m .0)) ∙ (sym (reach-is (S .W (m .0)) (S .over (m .0) (m .2))) ∙ m .3) })
         (λ x h y. let w = word (y .by) in let g = search-all B S (omega arith) w (word-over (y .over)) in
         rw (g .state ∙ (reach-is w (word-over (y .over)) ∙ (run-word L 0 (y .by) ∙ y .goes))) at (S .lit (g .at) (omega arith) (g .below))));

@@ -1,4 +1,4 @@
-mod Marks
+mod Status
 mod Joined
 mod Leading
 pub mod Difference

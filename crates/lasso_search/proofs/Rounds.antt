@@ -75,7 +75,7 @@ module _ (P : Fdfa) {leads rows : List ℕ} {k q : ℕ} (L : Tabulated leads (P 
   J = joint leads rows (P .states) (P .letters) q (aimAt (P .states) q k (P .accepting q))
 
   -- the search from q is exhausted
-  pub exhausted : {marks cells : List ℕ} {total head : ℕ} → Ready leads rows (P .states) (P .letters) q marks cells total head (aimAt (P .states) q k (P .accepting q)) → total ≤ head → (v : Word) → AcceptedPeriod P q v → ⊥
+  pub exhausted : {status cells : List ℕ} {total head : ℕ} → Ready leads rows (P .states) (P .letters) q status cells total head (aimAt (P .states) q k (P .accepting q)) → total ≤ head → (v : Word) → AcceptedPeriod P q v → ⊥
   exhausted A done v l = no-ending L R some qn rk (P .accepting q) (A .bounded) (A .search) done v (l .over) (l .loops) (l .back) (l .accepts)
 
   -- an ending is the first accepted loop at q

@@ -57,16 +57,16 @@ pub record Tabulated (t : List ℕ) (m s : ℕ) (f : ℕ → ℕ → ℕ) : Type
   pub closed : Closed s m f
   pub steps : (q a : ℕ) → q < m → a < s → rowStep t s q a ≡ f q a
 
--- The mark of a combination x before it is met: 2 where it is back at the leading state q, of n, and ends there.
-abbrev pub markOf : Bool → ℕ
-markOf ends = cond ends 2 1
+-- The status of a combination x before it is met: 2 where it is back at the leading state q, of n, and ends there.
+abbrev pub statusOf : Bool → ℕ
+statusOf ends = cond ends 2 1
 
 abbrev pub freshAt : ℕ → ℕ → (ℕ → Bool) → ℕ → ℕ
-freshAt n q ends x = markOf (eqb (x % n) q && ends (x / n))
+freshAt n q ends x = statusOf (eqb (x % n) q && ends (x / n))
 
-pub record Marked (marks : List ℕ) (n q k : ℕ) (ends : ℕ → Bool) : Type 0 where
-  pub long : length marks ≡ k * n
-  pub each : (x : ℕ) → x < k * n → getD marks x 0 ≡ freshAt n q ends x
+pub record Fresh (status : List ℕ) (n q k : ℕ) (ends : ℕ → Bool) : Type 0 where
+  pub long : length status ≡ k * n
+  pub each : (x : ℕ) → x < k * n → getD status x 0 ≡ freshAt n q ends x
 
 -- The pair y of progress states is marked in the first sheet and not in the second; what is read for that lies within the sheets.
 abbrev pub endsAt : List ℕ → List ℕ → Beside → ℕ → Bool
@@ -90,20 +90,20 @@ pub record Leads (f : ℕ → ℕ → ℕ) (s n : ℕ) (front : List ℕ) (reach
   pub all : (u : Word) → Over s u → (j : ℕ) × (j < reached) × (run f 0 (W j) ≡ run f 0 u) × (W j ⊑ u)
   pub counted : Counts (Reached s f) n reached
 
--- Rows, marks and cells suffice for the search from each leading state.
-pub record Room (P : Fdfa) (n rows marks cells : ℕ) : Type 0 where
+-- Rows, status and cells suffice for the search from each leading state.
+pub record Room (P : Fdfa) (n rows status cells : ℕ) : Type 0 where
   pub all : n ≡ P .states
-  pub leads : n ≤ marks
+  pub leads : n ≤ status
   pub rows-fit : (q : ℕ) → q < n → P .size q * P .letters ≤ rows
-  pub marks-fit : (q : ℕ) → q < n → P .size q * n ≤ marks
+  pub status-fit : (q : ℕ) → q < n → P .size q * n ≤ status
   pub cells-fit : (q : ℕ) → q < n → P .size q * n + 1 ≤ cells
 
 -- The search from q is prepared for k pairs of progress states, or no period from q is accepted (0).
-pub record Prepared (P : Fdfa) (n q : ℕ) (rows marks : List ℕ) (k : ℕ) : Type 0 where
+pub record Prepared (P : Fdfa) (n q : ℕ) (rows status : List ℕ) (k : ℕ) : Type 0 where
   pub none : k ≡ 0 → (v : Word) → AcceptedPeriod P q v → ⊥
   pub is : 0 < k → k ≡ P .size q
   pub tabled : 0 < k → Tabulated rows k (P .letters) (P .progress q)
-  pub marked : 0 < k → Marked (take (k * n) marks) n q k (P .accepting q)
+  pub fresh : 0 < k → Fresh (take (k * n) status) n q k (P .accepting q)
 
 -- The states of the codes below i have no accepted period.
 pub record Round (P : Fdfa) (front : List ℕ) (reached i : ℕ) : Type 0 where
@@ -112,20 +112,20 @@ pub record Round (P : Fdfa) (front : List ℕ) (reached i : ℕ) : Type 0 where
   pub none : (j : ℕ) → j < i → (v : Word) → AcceptedPeriod P (stateAt 0 front j) v → ⊥
 
 -- The next code from `from` on whose state the search is prepared for, or none of those reached. The first n − 1 cells are as before.
-pub record Next (P : Fdfa) (n reached from : ℕ) (rows marks before work : List ℕ) (c : Candidate) : Type 0 where
+pub record Next (P : Fdfa) (n reached from : ℕ) (rows status before work : List ℕ) (c : Candidate) : Type 0 where
   pub kept : take (n - 1) work ≡ take (n - 1) before
   pub later : from ≤ c .code
   pub round : Round P (take (n - 1) work) reached (c .code)
   pub state : c .code < reached → c .state ≡ stateAt 0 (take (n - 1) work) (c .code)
   pub some : c .code < reached → 0 < c .count
-  pub prepared : c .code < reached → Prepared P n (c .state) rows marks (c .count)
+  pub prepared : c .code < reached → Prepared P n (c .state) rows status (c .count)
 
--- Tables, marks and cells of these lengths suffice for the whole search.
-pub record CanFind (b c : List ℕ) (t : Beside) (n leads rows marks work : ℕ) : Type 0 where
+-- Tables, status and cells of these lengths suffice for the whole search.
+pub record CanFind (b c : List ℕ) (t : Beside) (n leads rows status work : ℕ) : Type 0 where
   pub alike : Alike b c
   pub tables : t ≡ leadsOf b c
   pub leads-fit : n * t .letters ≤ leads
-  pub room : Room (difference b c) n rows marks (work - (n - 1))
+  pub room : Room (difference b c) n rows status (work - (n - 1))
 
 -- R, and none or the first accepted and normalized lasso, by its codes.
 abbrev pub Located : Fdfa → List ℕ → Codes → Type 0

@@ -1,7 +1,7 @@
 // The search for the first lasso: pairs of leading states, and for each the combinations with two progress states.
 use crate::Candidate;
 use crate::Codes;
-use crate::marking::mark;
+use crate::setting::set_status;
 use pairing::Beside;
 use pairing::PairSizes;
 use search::Expansion;
@@ -12,17 +12,17 @@ ghost use lib.ListN.{length, take};
 ghost use Rattle.search.specs.Words.{Word, ε, run, Over};
 ghost use Rattle.pairing.specs.Pairs.{Alike, leadsOf, sizesOf};
 ghost use Rattle.lasso_search.specs.Lassos.{difference};
-ghost use Rattle.lasso_search.specs.Codes.{Tabulated, Marked, Leads, Room, Round, Prepared, Next, CanFind, Located};
+ghost use Rattle.lasso_search.specs.Codes.{Tabulated, Fresh, Leads, Room, Round, Prepared, Next, CanFind, Located};
 
 // Searches the leading states alone, the progress standing still; the number of those reached.
-fn reach(leads: &[u16], n: usize, letters: usize, marks: &mut [u8], cells: &mut [u64]) -> usize
-    requires { ⌜ ((f : ℕ → ℕ → ℕ) × Tabulated (now leads) n letters f) × (0 < n) × (length (now marks) ≡ n) × (length (now cells) ≡ n) ⌝ }
+fn reach(leads: &[u16], n: usize, letters: usize, status: &mut [u8], cells: &mut [u64]) -> usize
+    requires { ⌜ ((f : ℕ → ℕ → ℕ) × Tabulated (now leads) n letters f) × (0 < n) × (length (now status) ≡ n) × (length (now cells) ≡ n) ⌝ }
     ensures { λ r. ⌜ ((f : ℕ → ℕ → ℕ) → Tabulated (now (leads .entry)) n letters f → Leads f letters n (take (n - 1) (now (cells .exit))) r) ⌝ }
 {
-    search::refresh(marks);
-    marks[0] = 0;
+    search::refresh(status);
+    status[0] = 0;
     let still = [0u16; 32];
-    let found = search::explore(leads, &still, n, letters, 0, marks, cells);
+    let found = search::explore(leads, &still, n, letters, 0, status, cells);
     match found {
         Expansion::On(total) => total,
         Expansion::Ending(_) => 1,
@@ -30,20 +30,20 @@ fn reach(leads: &[u16], n: usize, letters: usize, marks: &mut [u8], cells: &mut 
 }
 
 // Whether some period leads the progress automata to an ending, the leading state standing still.
-fn can_end(rows: &[u16], letters: usize, count: usize, marks: &mut [u8], cells: &mut [u64]) -> bool
-    requires { ⌜ ((f : ℕ → ℕ → ℕ) × Tabulated (now rows) count letters f) × ((e : ℕ → Bool) × Marked (now marks) 1 0 count e) × (0 < count) × (count + 1 ≤ length (now cells)) ⌝ }
-    ensures { λ r. ⌜ (r ≡ false → (f : ℕ → ℕ → ℕ) (e : ℕ → Bool) → Tabulated (now (rows .entry)) count letters f → Marked (now (marks .entry)) 1 0 count e
+fn can_end(rows: &[u16], letters: usize, count: usize, status: &mut [u8], cells: &mut [u64]) -> bool
+    requires { ⌜ ((f : ℕ → ℕ → ℕ) × Tabulated (now rows) count letters f) × ((e : ℕ → Bool) × Fresh (now status) 1 0 count e) × (0 < count) × (count + 1 ≤ length (now cells)) ⌝ }
+    ensures { λ r. ⌜ (r ≡ false → (f : ℕ → ℕ → ℕ) (e : ℕ → Bool) → Tabulated (now (rows .entry)) count letters f → Fresh (now (status .entry)) 1 0 count e
         → (v : Word) → Over letters v → (v ≡ ε → ⊥) → e (run f 0 v) ≡ true → ⊥) ⌝ }
 {
     let still = [0u16; 32];
-    let found = search::explore(&still, rows, 1, letters, 0, marks, cells);
+    let found = search::explore(&still, rows, 1, letters, 0, status, cells);
     match found {
         Expansion::On(_) => false,
         Expansion::Ending(_) => true,
     }
 }
 
-// Makes the table and the marks for the search from the pair q of leading states. Says how many pairs of progress states it has, or 0
+// Makes the table and sets the status for the search from the pair q of leading states. Says how many pairs of progress states it has, or 0
 // where no period from q is accepted.
 fn prepare(
     first: &[u8],
@@ -52,12 +52,12 @@ fn prepare(
     n: usize,
     q: usize,
     rows: &mut [u16],
-    marks: &mut [u8],
+    status: &mut [u8],
     cells: &mut [u64],
 ) -> usize
     requires { ⌜ Alike (now first) (now second) × (t ≡ leadsOf (now first) (now second)) × (q < n) ⌝ }
-    requires { ⌜ Room (difference (now first) (now second)) n (length (now rows)) (length (now marks)) (length (now cells)) ⌝ }
-    ensures { λ r. ⌜ Prepared (difference (now (first .entry)) (now (second .entry))) n q (now (rows .exit)) (now (marks .exit)) r ⌝ }
+    requires { ⌜ Room (difference (now first) (now second)) n (length (now rows)) (length (now status)) (length (now cells)) ⌝ }
+    ensures { λ r. ⌜ Prepared (difference (now (first .entry)) (now (second .entry))) n q (now (rows .exit)) (now (status .exit)) r ⌝ }
 {
     let p = q / t.width;
     let r = q % t.width;
@@ -65,16 +65,16 @@ fn prepare(
     let m = pairing::marks(first, second, p, r);
     let count = packed::size(first, p) * g.width;
     pairing::tabulate(first, second, g, count, rows);
-    mark(first, second, m, count, 1, 0, &mut marks[..count]);
-    if !can_end(rows, g.letters, count, &mut marks[..count], cells) {
+    set_status(first, second, m, count, 1, 0, &mut status[..count]);
+    if !can_end(rows, g.letters, count, &mut status[..count], cells) {
         return 0;
     }
     let all = count * n;
-    mark(first, second, m, count, n, q, &mut marks[..all]);
+    set_status(first, second, m, count, n, q, &mut status[..all]);
     count
 }
 
-// The next leading state, by codes from `from` on, that some period may end at, its table and marks made. Its code is `reached` where
+// The next leading state, by codes from `from` on, that some period may end at, its table made and the status set. Its code is `reached` where
 // there is none.
 fn next_candidate(
     first: &[u8],
@@ -84,20 +84,20 @@ fn next_candidate(
     reached: usize,
     from: usize,
     rows: &mut [u16],
-    marks: &mut [u8],
+    status: &mut [u8],
     work: &mut [u64],
 ) -> Candidate
     requires { ⌜ Alike (now first) (now second) × (t ≡ leadsOf (now first) (now second)) ⌝ }
-    requires { ⌜ Room (difference (now first) (now second)) n (length (now rows)) (length (now marks)) (length (now work) - (n - 1)) ⌝ }
+    requires { ⌜ Room (difference (now first) (now second)) n (length (now rows)) (length (now status)) (length (now work) - (n - 1)) ⌝ }
     requires { ⌜ Round (difference (now first) (now second)) (take (n - 1) (now work)) reached from ⌝ }
     ensures { λ r. ⌜ Next (difference (now (first .entry)) (now (second .entry))) n reached from
-        (now (rows .exit)) (now (marks .exit)) (now (work .entry)) (now (work .exit)) r ⌝ }
+        (now (rows .exit)) (now (status .exit)) (now (work .entry)) (now (work .exit)) r ⌝ }
 {
     let front = n - 1;
     let mut i = from;
     while i < reached {
         let q = search::state_of(&work[..front], i, 0);
-        let count = prepare(first, second, t, n, q, rows, marks, &mut work[front..]);
+        let count = prepare(first, second, t, n, q, rows, status, &mut work[front..]);
         if count > 0 {
             return Candidate {
                 code: i,
@@ -124,17 +124,17 @@ fn find(
     n: usize,
     leads: &mut [u16],
     rows: &mut [u16],
-    marks: &mut [u8],
+    status: &mut [u8],
     work: &mut [u64],
 ) -> Codes
-    requires { ⌜ CanFind (now first) (now second) t n (length (now leads)) (length (now rows)) (length (now marks)) (length (now work)) ⌝ }
+    requires { ⌜ CanFind (now first) (now second) t n (length (now leads)) (length (now rows)) (length (now status)) (length (now work)) ⌝ }
     ensures { λ r. ⌜ Located (difference (now (first .entry)) (now (second .entry))) (now (work .exit)) r ⌝ }
 {
     let front = n - 1;
     pairing::tabulate(first, second, t, n, leads);
-    let reached = reach(leads, n, t.letters, &mut marks[..n], &mut work[..n]);
+    let reached = reach(leads, n, t.letters, &mut status[..n], &mut work[..n]);
     let mut out = Codes::Absent(reached);
-    let mut c = next_candidate(first, second, t, n, reached, 0, rows, marks, work);
+    let mut c = next_candidate(first, second, t, n, reached, 0, rows, status, work);
     'search: while c.code < reached {
         let q = c.state;
         let all = c.count * n;
@@ -149,7 +149,7 @@ fn find(
                 q,
                 h,
                 total,
-                &mut marks[..all],
+                &mut status[..all],
                 &mut work[front..],
             );
             match step {
@@ -163,12 +163,12 @@ fn find(
             }
             h += 1;
         }
-        c = next_candidate(first, second, t, n, reached, c.code + 1, rows, marks, work);
+        c = next_candidate(first, second, t, n, reached, c.code + 1, rows, status, work);
     }
     out
 }
 
-// The search with small tables and marks for 8,192 combinations; with tables for any sheets; and with marks for as many combinations
+// The search with small tables and room for 8,192 combinations; with tables for any sheets; and with room for as many combinations
 // as there can be.
 fn find_small(first: &[u8], second: &[u8], t: Beside, n: usize, work: &mut [u64]) -> Codes
     requires { ⌜ CanFind (now first) (now second) t n 2048 2048 8192 (length (now work)) ⌝ }
@@ -176,8 +176,17 @@ fn find_small(first: &[u8], second: &[u8], t: Beside, n: usize, work: &mut [u64]
 {
     let mut leads = [0u16; 2048];
     let mut rows = [0u16; 2048];
-    let mut marks = [0u8; 8192];
-    find(first, second, t, n, &mut leads, &mut rows, &mut marks, work)
+    let mut status = [0u8; 8192];
+    find(
+        first,
+        second,
+        t,
+        n,
+        &mut leads,
+        &mut rows,
+        &mut status,
+        work,
+    )
 }
 
 fn find_few(first: &[u8], second: &[u8], t: Beside, n: usize, work: &mut [u64]) -> Codes
@@ -186,8 +195,17 @@ fn find_few(first: &[u8], second: &[u8], t: Beside, n: usize, work: &mut [u64]) 
 {
     let mut leads = [0u16; 32768];
     let mut rows = [0u16; 32768];
-    let mut marks = [0u8; 8192];
-    find(first, second, t, n, &mut leads, &mut rows, &mut marks, work)
+    let mut status = [0u8; 8192];
+    find(
+        first,
+        second,
+        t,
+        n,
+        &mut leads,
+        &mut rows,
+        &mut status,
+        work,
+    )
 }
 
 fn find_many(first: &[u8], second: &[u8], t: Beside, n: usize, work: &mut [u64]) -> Codes
@@ -196,11 +214,20 @@ fn find_many(first: &[u8], second: &[u8], t: Beside, n: usize, work: &mut [u64])
 {
     let mut leads = [0u16; 32768];
     let mut rows = [0u16; 32768];
-    let mut marks = [0u8; 1048576];
-    find(first, second, t, n, &mut leads, &mut rows, &mut marks, work)
+    let mut status = [0u8; 1048576];
+    find(
+        first,
+        second,
+        t,
+        n,
+        &mut leads,
+        &mut rows,
+        &mut status,
+        work,
+    )
 }
 
-// The first lasso by its codes. A player lends 8,192 cells, and needs no room for more marks.
+// The first lasso by its codes. A player lends 8,192 cells, and needs no room for more combinations.
 pub fn locate(first: &[u8], second: &[u8], sizes: PairSizes, work: &mut [u64]) -> Codes
     requires { ⌜ Alike (now first) (now second) × (sizes ≡ sizesOf (now first) (now second)) × (length (now work) ≡ sizes .pairs + sizes .pairs * sizes .widest) ⌝ }
     ensures { λ r. ⌜ Located (difference (now (first .entry)) (now (second .entry))) (now (work .exit)) r ⌝ }

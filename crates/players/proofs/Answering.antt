@@ -14,7 +14,7 @@ use Rattle.lasso_search.specs.Lassos.{Report, reportOf, outcomeSays, roomFault,
 use Rattle.inclusion.specs.Calls as inclusion
 use Rattle.inclusion.specs.Calls.{compareStart, DecidesInclusion}
 use Rattle.players.specs.Layout.{layout, compareNumbers, unlessShort, Told}
-use Rattle.players.specs.Calls.{Slices, lasso, answer, compared, outcomeOf, Compared}
+use Rattle.players.specs.Calls.{AnswerSlices, lent, answer, compared, outcomeOf, ComparisonTold}
 
 short-old : {A : Type 0} (need : ℕ) (answer : List ℕ) (old new : A) → length answer < need → old ≡ unlessShort need answer old new
 short-old need answer old new h = ap (λ (t : Bool). cond t old new) (sym (lt-ltb _ _ h))
@@ -34,8 +34,8 @@ outcome-known (Absent z) = refl
 outcome-known (Found z) = refl
 outcome-known (Refused r) = refl
 
-module _ {b c : List ℕ} {before : Slices} where
-  pub compared-short : length (before .answer) < 72 → Compared b c before before 0
+module _ {b c : List ℕ} {before : AnswerSlices} where
+  pub compared-short : length (before .answer) < 72 → ComparisonTold b c before before 0
   compared-short h = record {
     tells = told-short 72 _ (before .answer) h;
     opening = short-old 72 (before .answer) (before .opening) _ h;
@@ -43,19 +43,19 @@ module _ {b c : List ℕ} {before : Slices} where
     decides = λ e. absurd (true≢false (sym (lt-ltb _ _ h) ∙ e));
   }
 
-  pub compared-long : {after : Slices} {work work′ : List ℕ} (a : Outcome) → 72 ≤ length (before .answer) → length work ≡ 8192
+  pub compared-long : {after : AnswerSlices} {work work′ : List ℕ} (a : Outcome) → 72 ≤ length (before .answer) → length work ≡ 8192
       → inclusion.Compared b c (record { opening = before .opening; period = before .period; work = work }) (record { opening = after .opening; period = after .period; work = work′ }) a
       → after .answer ≡ written (layout (compareNumbers (outcomeSays a))) (before .answer)
-      → Compared b c before after 1
+      → ComparisonTold b c before after 1
   compared-long {after} {work} {work′} a h w K e = record {
     tells = told-long 72 _ (before .answer) h (e ∙ ap (λ (x : Result Report). written (layout (compareNumbers x)) (before .answer)) said);
     opening = K .settles .opening ∙ (ap (λ (n : ℕ). filled (fault-of n) (prefixOf (answer b c .witness)) (before .opening)) w ∙ long-new 72 (before .answer) (before .opening) _ h);
     period = K .settles .period ∙ (ap (λ (n : ℕ). filled (fault-of n) (periodOf (answer b c .witness)) (before .period)) w ∙ long-new 72 (before .answer) (before .period) _ h);
-    decides = λ _. subst (DecidesInclusion (decode b) (decode c) (lasso after)) (sym (outcome-known a) ∙ ap outcomeOf said) (K .decides);
+    decides = λ _. subst (DecidesInclusion (decode b) (decode c) (lent after)) (sym (outcome-known a) ∙ ap outcomeOf said) (K .decides);
   }
     where
       fault-of : ℕ → Fault
-      fault-of n = compareStart b c n then roomFault (answer b c .witness) (lasso before)
+      fault-of n = compareStart b c n then roomFault (answer b c .witness) (lent before)
 
       said : outcomeSays a ≡ compared b c before
       said = K .settles .says ∙ ap (λ (n : ℕ). unless (fault-of n) (reportOf (answer b c .reached) (answer b c .witness))) w

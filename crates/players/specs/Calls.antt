@@ -16,22 +16,22 @@ use Rattle.inclusion.specs.Calls.{compareStart, DecidesInclusion}
 use Rattle.players.specs.Layout.{compareNumbers, unlessShort, Told}
 
 -- The slices that are lent to be written, beside the two sheets.
-pub record Slices : Type 0 where
+pub record AnswerSlices : Type 0 where
   pub opening : List ℕ
   pub period : List ℕ
   pub answer : List ℕ
 
-abbrev pub lasso : Slices → Lent
-lasso l = record { opening = l .opening; period = l .period }
+abbrev pub lent : AnswerSlices → Lent
+lent l = record { opening = l .opening; period = l .period }
 
 abbrev pub answer : List ℕ → List ℕ → model.Comparison
 answer b c = model.comparison (decode b) (decode c)
 
 -- The refusals of a comparison with 8,192 cells, and what it says.
-abbrev pub compareFault : List ℕ → List ℕ → Slices → Fault
-compareFault b c l = compareStart b c 8192 then roomFault (answer b c .witness) (lasso l)
+abbrev pub compareFault : List ℕ → List ℕ → AnswerSlices → Fault
+compareFault b c l = compareStart b c 8192 then roomFault (answer b c .witness) (lent l)
 
-abbrev pub compared : List ℕ → List ℕ → Slices → Result Report
+abbrev pub compared : List ℕ → List ℕ → AnswerSlices → Result Report
 compared b c l = unless (compareFault b c l) (reportOf (answer b c .reached) (answer b c .witness))
 
 -- The outcome that says so, as the third demand (`DecidesInclusion`) speaks of it.
@@ -44,7 +44,7 @@ outcomeOf (given s) = outcomeGiven (s .none) s
 outcomeOf (refused r) = Refused r
 
 -- What the call returns and leaves in the lent slices; the third demand holds of it where the answer slice is long enough.
-pub record Compared (b c : List ℕ) (before after : Slices) (r : ℕ) : Type 0 where
+pub record ComparisonTold (b c : List ℕ) (before after : AnswerSlices) (r : ℕ) : Type 0 where
   pub tells : Told 72 (compareNumbers (compared b c before)) (before .answer) (after .answer) r
   pub opening : after .opening
       ≡ unlessShort 72 (before .answer) (before .opening)
@@ -53,4 +53,4 @@ pub record Compared (b c : List ℕ) (before after : Slices) (r : ℕ) : Type 0 
       ≡ unlessShort 72 (before .answer) (before .period)
       (filled (compareFault b c before) (periodOf (answer b c .witness)) (before .period))
   pub decides : ltb (length (before .answer)) 72 ≡ false
-      → DecidesInclusion (decode b) (decode c) (lasso after) (outcomeOf (compared b c before))
+      → DecidesInclusion (decode b) (decode c) (lent after) (outcomeOf (compared b c before))

@@ -10,7 +10,7 @@ ghost use Rattle.slices.specs.Filling.{written};
 ghost use Rattle.membership.specs.Verdict.{verdictOf, saysOf as judgementSays};
 ghost use Rattle.lasso_search.specs.Lassos.{outcomeSays};
 ghost use Rattle.players.specs.Layout.{partNumber, numberBytes, layout, verdictNumbers, givenNumbers, compareNumbers, Told};
-ghost use Rattle.players.specs.Calls.{Compared};
+ghost use Rattle.players.specs.Calls.{ComparisonTold};
 
 // What a call returns: whether the answer slice was long enough, and the answer written.
 const SHORT: u32 = 0;
@@ -153,7 +153,7 @@ pub extern "C" fn fdfa_compare(
     period: &mut [u8],
     answer: &mut [u8],
 ) -> u32
-    ensures { λ r. ⌜ Compared (now (first .entry)) (now (second .entry))
+    ensures { λ r. ⌜ ComparisonTold (now (first .entry)) (now (second .entry))
         (record { opening = now (opening .entry); period = now (period .entry); answer = now (answer .entry) })
         (record { opening = now (opening .exit); period = now (period .exit); answer = now (answer .exit) })
         r ⌝ }

@@ -71,18 +71,18 @@ pub record Stands (n N x p : ℕ) : Type 0 where
 -- what is searched over such tables
 module _ {leads rows : List ℕ} {n s root : ℕ} {aim : Aim} (T : Tables leads rows n (aim .rows) s) where
   pub bounded : root < n → 0 < aim .rows → aim .lo ≤ 1 → ((x : ℕ) → x < aim .rows * n → (1 ≤ aim .fresh x) × (aim .fresh x ≤ 2)) → Bounded (joint leads rows n s root aim)
-  bounded rn some low marks = record {
+  bounded rn some low status = record {
     closed = next-in T;
     few-letters = T .few-letters;
     few-states = mul-le-mul (T .few-rows) (T .few-leads);
     few-rows = λ x h. let y : x / n < aim .rows = left-below (T .some) h in omega (arith, T .few-rows);
     low = low;
     starts = let h : 0 * n + root < aim .rows * n = digits-lt some rn in omega arith;
-    marks = marks;
+    status = status;
   }
 
   -- the place of a code is its state with its row above
-  module _ (B : Bounded (joint leads rows n s root aim)) (rn : root < n) {marks cells : List ℕ} {total head b : ℕ} (S : Search (joint leads rows n s root aim) marks cells total head b) where
+  module _ (B : Bounded (joint leads rows n s root aim)) (rn : root < n) {status cells : List ℕ} {total head b : ℕ} (S : Search (joint leads rows n s root aim) status cells total head b) where
     abbrev P : Space
     P = joint leads rows n s root aim
 

@@ -1,6 +1,6 @@
 pub mod Shortlex
 pub mod Letters
-pub mod Marks
+pub mod Status
 pub mod Product
 pub mod Theory
 pub mod Steps

@@ -9,14 +9,14 @@ use Rattle.search.specs.Words.{ε, short, front}
 use Rattle.search.specs.Queue.{entry, met}
 use Rattle.search.specs.Search.{Space, reach, Bounded, Search, Ends}
 use Rattle.search.proofs.Shortlex.{⊏-trans}
-use Rattle.search.proofs.Marks.{met-most}
+use Rattle.search.proofs.Status.{met-most}
 use Rattle.search.proofs.Steps.{step-on, step-ends}
 
 -- a search where nothing is expanded
-pub init : (P : Space) {marks cells : List ℕ} → P .root < P .states → length marks ≡ P .states → P .states + P .lo ≤ length cells → P .lo ≤ 1 → met marks + P .lo ≡ 1
-    → ((x : ℕ) → x < P .states → getD marks x 0 ≡ 0 → (P .lo ≡ 0) × (x ≡ P .root)) → (P .lo ≡ 0 → (getD marks (P .root) 0 ≡ 0) × (P .fresh (P .root) ≡ 1))
-    → ((x : ℕ) → x < P .states → (getD marks x 0 ≡ 0 → ⊥) → getD marks x 0 ≡ P .fresh x) → Search P marks cells 1 0 0
-init P h size room low count marked lit kept = record {
+pub init : (P : Space) {status cells : List ℕ} → P .root < P .states → length status ≡ P .states → P .states + P .lo ≤ length cells → P .lo ≤ 1 → met status + P .lo ≡ 1
+    → ((x : ℕ) → x < P .states → getD status x 0 ≡ 0 → (P .lo ≡ 0) × (x ≡ P .root)) → (P .lo ≡ 0 → (getD status (P .root) 0 ≡ 0) × (P .fresh (P .root) ≡ 1))
+    → ((x : ℕ) → x < P .states → (getD status x 0 ≡ 0 → ⊥) → getD status x 0 ≡ P .fresh x) → Search P status cells 1 0 0
+init P h size room low count status lit kept = record {
   W = λ j. ε;
   start = refl;
   size = size;
@@ -29,24 +29,24 @@ init P h size room low count marked lit kept = record {
   rising = λ i j l g. absurd (omega arith);
   fence = λ j l g. short;
   closed = λ c a ct al g. absurd (omega arith);
-  by = λ x i on. let m = marked x i on in (0, omega (arith, m .0), omega arith, sym (m .1));
+  by = λ x i on. let m = status x i on in (0, omega (arith, m .0), omega arith, sym (m .1));
   lit = λ j l g. lit (omega arith) .0;
   kept = kept;
   calm = λ j l g. lit (omega arith) .1;
   entries = λ i g. absurd (omega arith);
 }
 
-pub codes-few : {P : Space} {marks cells : List ℕ} {total head b : ℕ} → Search P marks cells total head b → total ≤ P .states + P .lo
-codes-few {marks = marks} S = omega (arith, S .counted, S .size, met-most marks)
+pub codes-few : {P : Space} {status cells : List ℕ} {total head b : ℕ} → Search P status cells total head b → total ≤ P .states + P .lo
+codes-few {status = status} S = omega (arith, S .counted, S .size, met-most status)
 
 -- the code `head`, whose state is x, is expanded by the letters below a
-pub record Expanding (P : Space) (marks cells : List ℕ) (total head a x : ℕ) : Type 0 where
-  pub search : Search P marks cells total head a
+pub record Expanding (P : Space) (status cells : List ℕ) (total head a x : ℕ) : Type 0 where
+  pub search : Search P status cells total head a
   pub state : reach P (search .W head) ≡ x
   pub going : head < total
   pub within : a ≤ P .letters
 
-module _ {P : Space} (B : Bounded P) {marks cells : List ℕ} {total head a x : ℕ} (E : Expanding P marks cells total head a x) where
+module _ {P : Space} (B : Bounded P) {status cells : List ℕ} {total head a x : ℕ} (E : Expanding P status cells total head a x) where
   pub expanding-in : x < P .states
   expanding-in = rw (← E .state) (E .search .inside head (E .going))
 
@@ -54,16 +54,16 @@ module _ {P : Space} (B : Bounded P) {marks cells : List ℕ} {total head a x : 
   pub expanding-room : total ≤ length cells
   expanding-room = omega (arith, codes-few (E .search), E .search .room)
 
-  pub expanding-on : {y : ℕ} → a < P .letters → P .step x a ≡ y → (getD marks y 0 ≡ 2 → ⊥)
-      → Expanding P (set marks y 0) (set cells (total - 1) (entry y (y / P .width) a head)) (total + getD marks y 0) head (a + 1) x
+  pub expanding-on : {y : ℕ} → a < P .letters → P .step x a ≡ y → (getD status y 0 ≡ 2 → ⊥)
+      → Expanding P (set status y 0) (set cells (total - 1) (entry y (y / P .width) a head)) (total + getD status y 0) head (a + 1) x
   expanding-on l e m =
       let s = step-on B (E .search) (E .going) l (ap (λ (z : ℕ). P .step z a) (E .state) ∙ e) m in
       record { search = s .now; state = ap (reach P) (s .keeps) ∙ E .state; going = omega (arith, E .going); within = omega arith }
 
-  pub expanding-ends : {y : ℕ} → a < P .letters → P .step x a ≡ y → getD marks y 0 ≡ 2 → Ends P (set cells (total - 1) (entry y (y / P .width) a head)) total
+  pub expanding-ends : {y : ℕ} → a < P .letters → P .step x a ≡ y → getD status y 0 ≡ 2 → Ends P (set cells (total - 1) (entry y (y / P .width) a head)) total
   expanding-ends l e m = step-ends B (E .search) (E .going) l (ap (λ (z : ℕ). P .step z a) (E .state) ∙ e) m
 
-  pub expanding-done : P .letters ≤ a → Search P marks cells total (head + 1) 0
+  pub expanding-done : P .letters ≤ a → Search P status cells total (head + 1) 0
   expanding-done l =
       let S = E .search in
       record {

@@ -1,5 +1,5 @@
--- One letter of a breadth-first search: an entry is stored at the tail in any case, the state's mark becomes 0, and the tail moves by
--- what the mark was. Assumes nothing.
+-- One letter of a breadth-first search: an entry is stored at the tail in any case, the state's status becomes 0, and the tail moves by
+-- what it was. Assumes nothing.
 use mathlib.Core.Path.{_≡_, refl, ap, sym, subst, _∙_}
 use mathlib.Core.Bool.{Bool, true, false}
 use mathlib.Core.List.{List}
@@ -18,7 +18,7 @@ use Rattle.search.specs.Queue.{entry, met}
 use Rattle.search.specs.Paths.{Path, at-root, at-step}
 use Rattle.search.specs.Search.{Space, reach, Bounded, Hit, Entry, Search, Ends}
 use Rattle.search.proofs.Shortlex.{⊏-trans, ⊑-of-eq}
-use Rattle.search.proofs.Marks.{met-set, met-most}
+use Rattle.search.proofs.Status.{met-set, met-most}
 use Rattle.search.proofs.Theory.{next-first}
 
 abbrev pick : Bool → Word → Word → Word
@@ -46,11 +46,11 @@ module _ {P : Space} (B : Bounded P) {cells : List ℕ} (W : ℕ → Word) (star
           (at-step (e .older) (omega (arith, e .stands, B .few-states, B .few-letters)) (omega (arith, e .stands, B .few-states, B .few-letters)) (go m (e .parent) (omega (arith, e .older)) (omega (arith, e .older))))
 
 -- a search after a step, with the word of the code that is expanded
-pub record After (P : Space) (marks cells : List ℕ) (total head b : ℕ) (h : Word) : Type 0 where
-  pub now : Search P marks cells total head b
+pub record After (P : Space) (status cells : List ℕ) (total head b : ℕ) (h : Word) : Type 0 where
+  pub now : Search P status cells total head b
   pub keeps : now .W head ≡ h
 
-module _ {P : Space} (B : Bounded P) {marks cells : List ℕ} {total head b : ℕ} (S : Search P marks cells total head b)
+module _ {P : Space} (B : Bounded P) {status cells : List ℕ} {total head b : ℕ} (S : Search P status cells total head b)
     (hd : head < total) (bs : b < P .letters) {x : ℕ} (xe : P .step (reach P (S .W head)) b ≡ x) where
   xN : x < P .states
   xN = rw (← xe) (B .closed (reach P (S .W head)) b (S .inside head hd) bs)
@@ -62,7 +62,7 @@ module _ {P : Space} (B : Bounded P) {marks cells : List ℕ} {total head b : �
   cells′ = set cells (total - 1) e
 
   pub few : total ≤ P .states + P .lo
-  few = omega (arith, S .counted, met-most marks, S .size)
+  few = omega (arith, S .counted, met-most status, S .size)
 
   room : total - 1 < length cells
   room = omega (arith, few, S .some, S .room)
@@ -86,29 +86,29 @@ module _ {P : Space} (B : Bounded P) {marks cells : List ℕ} {total head b : �
   keep-entry i h n = record { parent = n .parent; letter = n .letter; older = n .older; word = n .word; stands = old-entry i h ∙ n .stands }
 
   -- the state was met before: the entry at the tail is none
-  seen : getD marks x 0 ≡ 0 → Search P (set marks x 0) cells′ total head (b + 1)
+  seen : getD status x 0 ≡ 0 → Search P (set status x 0) cells′ total head (b + 1)
   seen on = record {
     W = S .W;
     start = S .start;
-    size = rw same-marks (S .size);
+    size = rw same-status (S .size);
     room = rw (length-set cells (total - 1) e) (S .room);
     some = S .some;
     upto = S .upto;
-    counted = rw same-marks (S .counted);
+    counted = rw same-status (S .counted);
     over = S .over;
     inside = S .inside;
     rising = S .rising;
     fence = λ j h g. ⊏-trans (S .fence j h g) (next (S .W head));
     closed = λ c a ct al h. by c a ct al (split c a al h);
-    by = rw same-marks (S .by);
-    lit = rw same-marks (S .lit);
-    kept = rw same-marks (S .kept);
+    by = rw same-status (S .by);
+    lit = rw same-status (S .lit);
+    kept = rw same-status (S .kept);
     calm = S .calm;
     entries = λ i h. keep-entry i h (S .entries i h);
   }
     where
-      same-marks : set marks x 0 ≡ marks
-      same-marks = ap (set marks x) (sym on) ∙ set-getD marks x 0
+      same-status : set status x 0 ≡ status
+      same-status = ap (set status x) (sym on) ∙ set-getD status x 0
 
       by : (c a : ℕ) → c < total → a < P .letters → (c * 32 + a < head * 32 + b) ⊎ ((c ≡ head) × (a ≡ b))
           → Hit P (P .lo) total (S .W) (P .step (reach P (S .W c)) a) (S .W c · a)
@@ -174,8 +174,8 @@ module _ {P : Space} (B : Bounded P) {marks cells : List ℕ} {total head b : �
           }
 
   -- the state was not met: one code more
-  module _ (off : getD marks x 0 ≡ P .fresh x) (one : P .fresh x ≡ 1) where
-    xin : x < length marks
+  module _ (off : getD status x 0 ≡ P .fresh x) (one : P .fresh x ≡ 1) where
+    xin : x < length status
     xin = rw (S .size) xN
 
     raise : {y : ℕ} {w : Word} → Hit P (P .lo) total (S .W) y w → Hit P (P .lo) (total + 1) more y w
@@ -188,36 +188,36 @@ module _ {P : Space} (B : Bounded P) {marks cells : List ℕ} {total head b : �
     new-closed c a ct al (inl h) = raise (S .closed c a ct al h)
     new-closed c a ct al (inr h) = rw (h .0, h .1) new-hit
 
-    new-by : (y : ℕ) → y < P .states → getD (set marks x 0) y 0 ≡ 0 → (j : ℕ) × (P .lo ≤ j) × (j < total + 1) × (reach P (more j) ≡ y)
+    new-by : (y : ℕ) → y < P .states → getD (set status x 0) y 0 ≡ 0 → (j : ℕ) × (P .lo ≤ j) × (j < total + 1) × (reach P (more j) ≡ y)
     new-by y h on = by (ℕ-discrete y x)
       where
         by : Dec (y ≡ x) → (j : ℕ) × (P .lo ≤ j) × (j < total + 1) × (reach P (more j) ≡ y)
         by (yes d) = (total, omega (arith, B .low, S .some), omega arith, new-state ∙ sym d)
         by (no d) =
-            let m = S .by y h (sym (getD-set-other marks x y 0 0 d) ∙ on) in
+            let m = S .by y h (sym (getD-set-other status x y 0 0 d) ∙ on) in
             (m .0, m .1, omega (arith, m .2), rw (more-old (m .0) (m .2)) (m .3))
 
-    old-lit : (j : ℕ) → j < total → P .lo ≤ j → getD (set marks x 0) (reach P (more j)) 0 ≡ 0
+    old-lit : (j : ℕ) → j < total → P .lo ≤ j → getD (set status x 0) (reach P (more j)) 0 ≡ 0
     old-lit j h l =
         rw (more-old j h)
-        (getD-set-other marks x (reach P (S .W j)) 0 0 (λ d. omega (arith, sym (ap (λ (y : ℕ). getD marks y 0) d), S .lit j l h, off, one)) ∙ S .lit j l h)
+        (getD-set-other status x (reach P (S .W j)) 0 0 (λ d. omega (arith, sym (ap (λ (y : ℕ). getD status y 0) d), S .lit j l h, off, one)) ∙ S .lit j l h)
 
-    new-kept : (y : ℕ) → y < P .states → (getD (set marks x 0) y 0 ≡ 0 → ⊥) → getD (set marks x 0) y 0 ≡ P .fresh y
+    new-kept : (y : ℕ) → y < P .states → (getD (set status x 0) y 0 ≡ 0 → ⊥) → getD (set status x 0) y 0 ≡ P .fresh y
     new-kept y h n = by (ℕ-discrete y x)
       where
-        by : Dec (y ≡ x) → getD (set marks x 0) y 0 ≡ P .fresh y
-        by (yes d) = absurd (n (ap (λ (z : ℕ). getD (set marks x 0) z 0) d ∙ getD-set-same marks x 0 0 xin))
-        by (no d) = let g = getD-set-other marks x y 0 0 d in g ∙ S .kept y h (λ z. n (g ∙ z))
+        by : Dec (y ≡ x) → getD (set status x 0) y 0 ≡ P .fresh y
+        by (yes d) = absurd (n (ap (λ (z : ℕ). getD (set status x 0) z 0) d ∙ getD-set-same status x 0 0 xin))
+        by (no d) = let g = getD-set-other status x y 0 0 d in g ∙ S .kept y h (λ z. n (g ∙ z))
 
-    fresh : Search P (set marks x 0) cells′ (total + 1) head (b + 1)
+    fresh : Search P (set status x 0) cells′ (total + 1) head (b + 1)
     fresh = record {
       W = more;
       start = more-old 0 (S .some) ∙ S .start;
-      size = length-set marks x 0 ∙ S .size;
+      size = length-set status x 0 ∙ S .size;
       room = rw (length-set cells (total - 1) e) (S .room);
       some = omega arith;
       upto = omega (arith, S .upto);
-      counted = omega (arith, met-set marks x 0 xin, off, one, S .counted);
+      counted = omega (arith, met-set status x 0 xin, off, one, S .counted);
       over = more-over;
       inside = more-inside;
       rising = λ i j l h. code (λ j. i < j → more i ⊏ more j)
@@ -228,28 +228,28 @@ module _ {P : Space} (B : Bounded P) {marks cells : List ℕ} {total head b : �
           (rw (more-new, more-old head hd) (next (S .W head))) j h;
       closed = λ c a ct al h. rw (more-old c (omega arith)) (new-closed c a (omega arith) al (split c a al h));
       by = new-by;
-      lit = λ j l h. code (λ j. P .lo ≤ j → getD (set marks x 0) (reach P (more j)) 0 ≡ 0) old-lit (λ l. rw new-state (getD-set-same marks x 0 0 xin)) j h l;
+      lit = λ j l h. code (λ j. P .lo ≤ j → getD (set status x 0) (reach P (more j)) 0 ≡ 0) old-lit (λ l. rw new-state (getD-set-same status x 0 0 xin)) j h l;
       kept = new-kept;
       calm = λ j l h. code (λ j. P .lo ≤ j → P .fresh (reach P (more j)) ≡ 1) (λ j h l. rw (more-old j h) (S .calm j l h)) (λ l. rw new-state one) j h l;
       entries = more-entries;
     }
 
-  -- the mark that was read
-  unmet : (getD marks x 0 ≡ 0 → ⊥) → (getD marks x 0 ≡ 2 → ⊥) → P .fresh x ≡ 1
-  unmet n m = omega (arith, S .kept x xN n, B .marks x xN)
+  -- the status that was read
+  unmet : (getD status x 0 ≡ 0 → ⊥) → (getD status x 0 ≡ 2 → ⊥) → P .fresh x ≡ 1
+  unmet n m = omega (arith, S .kept x xN n, B .status x xN)
 
-  pub step-on : (getD marks x 0 ≡ 2 → ⊥) → After P (set marks x 0) cells′ (total + getD marks x 0) head (b + 1) (S .W head)
+  pub step-on : (getD status x 0 ≡ 2 → ⊥) → After P (set status x 0) cells′ (total + getD status x 0) head (b + 1) (S .W head)
   unfolding seen fresh
-  step-on m = by (ℕ-discrete (getD marks x 0) 0)
+  step-on m = by (ℕ-discrete (getD status x 0) 0)
     where
-      moved : {t t′ : ℕ} → t ≡ t′ → After P (set marks x 0) cells′ t head (b + 1) (S .W head) → After P (set marks x 0) cells′ t′ head (b + 1) (S .W head)
-      moved d A = subst (λ (t : ℕ). After P (set marks x 0) cells′ t head (b + 1) (S .W head)) d A
+      moved : {t t′ : ℕ} → t ≡ t′ → After P (set status x 0) cells′ t head (b + 1) (S .W head) → After P (set status x 0) cells′ t′ head (b + 1) (S .W head)
+      moved d A = subst (λ (t : ℕ). After P (set status x 0) cells′ t head (b + 1) (S .W head)) d A
 
-      by : Dec (getD marks x 0 ≡ 0) → After P (set marks x 0) cells′ (total + getD marks x 0) head (b + 1) (S .W head)
+      by : Dec (getD status x 0 ≡ 0) → After P (set status x 0) cells′ (total + getD status x 0) head (b + 1) (S .W head)
       by (yes d) = moved (omega arith) (record { now = seen d; keeps = refl })
       by (no d) = moved (omega (arith, S .kept x xN d, unmet d m)) (record { now = fresh (S .kept x xN d) (unmet d m); keeps = more-old head hd })
 
-  pub step-ends : getD marks x 0 ≡ 2 → Ends P cells′ total
+  pub step-ends : getD status x 0 ≡ 2 → Ends P cells′ total
   step-ends m = record {
     word = S .W head · b;
     path = subst (Path cells′ total) more-new (path-of B more (more-old 0 (S .some) ∙ S .start) (total + 1) more-over more-inside more-entries total (omega arith));

@@ -13,7 +13,7 @@ data Found (P : Space) (lo total done : ℕ) (W : ℕ → Word) (w : Word) : Typ
   hit : Hit P lo total W (reach P w) w → Found P lo total done W w
   ahead : (j c : ℕ) → j < total → c < 32 → done ≤ j * 32 + c → W j · c ⊑ w → Found P lo total done W w
 
-module _ {P : Space} (B : Bounded P) {marks cells : List ℕ} {total head b : ℕ} (S : Search P marks cells total head b) where
+module _ {P : Space} (B : Bounded P) {status cells : List ℕ} {total head b : ℕ} (S : Search P status cells total head b) where
   abbrev done : ℕ
   done = head * 32 + b
 

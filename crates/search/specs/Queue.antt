@@ -1,4 +1,4 @@
--- The memory of a search: its queue, 64 bits an entry, and a mark for each state. Assumes nothing.
+-- The memory of a search: its queue, 64 bits an entry, and a status for each state. Assumes nothing.
 use mathlib.Core.Bool.{cond}
 use mathlib.Core.List.{List, [], _∷_}
 use Prim.Native.Nat.{ℕ, _+_, _*_, _-_, _/_, _%_}
@@ -23,7 +23,7 @@ placeAt root cells code = cond (eqb code 0) root (getD cells (code - 1) 0 % 1073
 abbrev pub stateAt : ℕ → List ℕ → ℕ → ℕ
 stateAt root cells code = placeAt root cells code % 1048576
 
--- How many marks are 0, the mark of a state that was met.
+-- How many states have status 0: those that were met.
 abbrev pub met : List ℕ → ℕ
 met [] = 0
 met (m ∷ ms) = (1 - m) + met ms

@@ -12,7 +12,7 @@ use Rattle.search.specs.declared.Expansion.{Expansion}
 use Rattle.search.specs.declared.Expansion.the-variants.{On, Ending}
 
 -- What is searched: states that move by letters, from a root that counts as met at once (`lo` 0) or only once it is reached by a
--- letter (1). A state's mark before it is met is 1, or 2 where the search ends.
+-- letter (1). A state's status before it is met is 1, or 2 where the search ends.
 pub record Space : Type 0 where
   pub step : ℕ → ℕ → ℕ
   pub letters : ℕ
@@ -32,7 +32,7 @@ pub record Bounded (P : Space) : Type 0 where
   pub few-rows : (x : ℕ) → x < P .states → x / P .width < 1024
   pub low : P .lo ≤ 1
   pub starts : P .root < P .states
-  pub marks : (x : ℕ) → x < P .states → (1 ≤ P .fresh x) × (P .fresh x ≤ 2)
+  pub status : (x : ℕ) → x < P .states → (1 ≤ P .fresh x) × (P .fresh x ≤ 2)
 
 -- Some code from lo on reaches x by a word that is no later than w.
 pub record Hit (P : Space) (lo total : ℕ) (W : ℕ → Word) (x : ℕ) (w : Word) : Type 0 where
@@ -52,22 +52,22 @@ pub record Entry (P : Space) (W : ℕ → Word) (cells : List ℕ) (i : ℕ) : T
 
 -- `total` codes are found, each with its word; the codes below `head` are expanded, and of `head` the letters below b. No state that
 -- was met ends the search.
-pub record Search (P : Space) (marks cells : List ℕ) (total head b : ℕ) : Type 0 where
+pub record Search (P : Space) (status cells : List ℕ) (total head b : ℕ) : Type 0 where
   pub W : ℕ → Word
   pub start : W 0 ≡ ε
-  pub size : length marks ≡ P .states
+  pub size : length status ≡ P .states
   pub room : P .states + P .lo ≤ length cells
   pub some : 1 ≤ total
   pub upto : head ≤ total
-  pub counted : met marks + P .lo ≡ total
+  pub counted : met status + P .lo ≡ total
   pub over : (j : ℕ) → j < total → Over (P .letters) (W j)
   pub inside : (j : ℕ) → j < total → reach P (W j) < P .states
   pub rising : (i j : ℕ) → i < j → j < total → W i ⊏ W j
   pub fence : (j : ℕ) → j < total → head < total → W j ⊏ W head · b
   pub closed : (c a : ℕ) → c < total → a < P .letters → c * 32 + a < head * 32 + b → Hit P (P .lo) total W (P .step (reach P (W c)) a) (W c · a)
-  pub by : (x : ℕ) → x < P .states → getD marks x 0 ≡ 0 → (j : ℕ) × (P .lo ≤ j) × (j < total) × (reach P (W j) ≡ x)
-  pub lit : (j : ℕ) → P .lo ≤ j → j < total → getD marks (reach P (W j)) 0 ≡ 0
-  pub kept : (x : ℕ) → x < P .states → (getD marks x 0 ≡ 0 → ⊥) → getD marks x 0 ≡ P .fresh x
+  pub by : (x : ℕ) → x < P .states → getD status x 0 ≡ 0 → (j : ℕ) × (P .lo ≤ j) × (j < total) × (reach P (W j) ≡ x)
+  pub lit : (j : ℕ) → P .lo ≤ j → j < total → getD status (reach P (W j)) 0 ≡ 0
+  pub kept : (x : ℕ) → x < P .states → (getD status x 0 ≡ 0 → ⊥) → getD status x 0 ≡ P .fresh x
   pub calm : (j : ℕ) → P .lo ≤ j → j < total → P .fresh (reach P (W j)) ≡ 1
   pub entries : (i : ℕ) → suc i < total → Entry P W cells i
 
@@ -83,13 +83,13 @@ pub record Ends (P : Space) (cells : List ℕ) (code : ℕ) : Type 0 where
 
 -- One code more is expanded, or an ending was met.
 abbrev pub Expanded : Space → List ℕ → List ℕ → ℕ → Expansion → Type 0
-Expanded P marks cells head (On total) = Search P marks cells total (head + 1) 0
-Expanded P marks cells head (Ending code) = Ends P cells code
+Expanded P status cells head (On total) = Search P status cells total (head + 1) 0
+Expanded P status cells head (Ending code) = Ends P cells code
 
 -- All codes are expanded and none ends the search, or an ending was met.
 abbrev pub Explored : Space → List ℕ → List ℕ → Expansion → Type 0
-Explored P marks cells (On total) = Search P marks cells total total 0
-Explored P marks cells (Ending code) = Ends P cells code
+Explored P status cells (On total) = Search P status cells total total 0
+Explored P status cells (Ending code) = Ends P cells code
 
 -- Two automata side by side by their tables, row after row: state y of `rows` and state r of `leads`, of n, have the number y × n + r.
 abbrev pub rowStep : List ℕ → ℕ → ℕ → ℕ → ℕ
@@ -105,7 +105,7 @@ pub record Tables (leads rows : List ℕ) (n k s : ℕ) : Type 0 where
   pub leads-closed : Closed s n (rowStep leads s)
   pub rows-closed : Closed s k (rowStep rows s)
 
--- What a search over such tables looks for: of k rows, from lo on, the states that are marked 2.
+-- What a search over such tables looks for: of k rows, from lo on, the states of status 2.
 pub record Aim : Type 0 where
   pub rows : ℕ
   pub lo : ℕ
@@ -123,12 +123,12 @@ joint leads rows n s root aim = record {
 }
 
 -- What the search has found, for an aim; and that there is such an aim.
-pub record Ready (leads rows : List ℕ) (n s root : ℕ) (marks cells : List ℕ) (total head : ℕ) (aim : Aim) : Type 0 where
+pub record Ready (leads rows : List ℕ) (n s root : ℕ) (status cells : List ℕ) (total head : ℕ) (aim : Aim) : Type 0 where
   pub tables : Tables leads rows n (aim .rows) s
   pub bounded : Bounded (joint leads rows n s root aim)
   pub leading : root < n
-  pub search : Search (joint leads rows n s root aim) marks cells total head 0
+  pub search : Search (joint leads rows n s root aim) status cells total head 0
 
-pub record Searchable (leads rows : List ℕ) (n s root : ℕ) (marks cells : List ℕ) (total head : ℕ) : Type 0 where
+pub record Searchable (leads rows : List ℕ) (n s root : ℕ) (status cells : List ℕ) (total head : ℕ) : Type 0 where
   pub aim : Aim
-  pub ready : Ready leads rows n s root marks cells total head aim
+  pub ready : Ready leads rows n s root status cells total head aim

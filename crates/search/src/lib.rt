@@ -40,7 +40,7 @@ pub fn state_of(cells: &[u64], code: usize, root: usize) -> usize
 }
 
 // Expands the code `head` by every letter in its order. Each next state is entered at the queue's tail, and the tail moves on by the
-// state's mark, which is 0 once the state was met; a mark of 2 ends the search. The next state is leads + width × rows.
+// state's status, which is 0 once the state was met; a status of 2 ends the search. The next state is leads + width × rows.
 pub fn expand(
     leads: &[u16],
     rows: &[u16],
@@ -49,13 +49,13 @@ pub fn expand(
     root: usize,
     head: usize,
     total: usize,
-    marks: &mut [u8],
+    status: &mut [u8],
     cells: &mut [u64],
 ) -> Expansion
-    requires { ⌜ Searchable (now leads) (now rows) width letters root (now marks) (now cells) total head × (head < total) ⌝ }
+    requires { ⌜ Searchable (now leads) (now rows) width letters root (now status) (now cells) total head × (head < total) ⌝ }
     ensures { λ r. ⌜ ((aim : Aim)
-        → Ready (now (leads .entry)) (now (rows .entry)) width letters root (now (marks .entry)) (now (cells .entry)) total head aim
-        → Expanded (joint (now (leads .entry)) (now (rows .entry)) width letters root aim) (now (marks .exit)) (now (cells .exit)) head r) ⌝ }
+        → Ready (now (leads .entry)) (now (rows .entry)) width letters root (now (status .entry)) (now (cells .entry)) total head aim
+        → Expanded (joint (now (leads .entry)) (now (rows .entry)) width letters root aim) (now (status .exit)) (now (cells .exit)) head r) ⌝ }
 {
     let place = place_of(cells, head, root);
     let row = place / 1048576;
@@ -67,8 +67,8 @@ pub fn expand(
         let next = wide16(leads[lead + a]) + wide16(rows[from + a]) * (width + 1048576);
         cells[codes - 1] = (next + 1073741824 * (a + 32 * head)) as u64;
         let x = next % 1048576;
-        let m = marks[x];
-        marks[x] = 0;
+        let m = status[x];
+        status[x] = 0;
         if m == 2 {
             return Expansion::Ending(codes);
         }
@@ -85,18 +85,28 @@ pub fn explore(
     width: usize,
     letters: usize,
     root: usize,
-    marks: &mut [u8],
+    status: &mut [u8],
     cells: &mut [u64],
 ) -> Expansion
-    requires { ⌜ Searchable (now leads) (now rows) width letters root (now marks) (now cells) 1 0 ⌝ }
+    requires { ⌜ Searchable (now leads) (now rows) width letters root (now status) (now cells) 1 0 ⌝ }
     ensures { λ r. ⌜ ((aim : Aim)
-        → Ready (now (leads .entry)) (now (rows .entry)) width letters root (now (marks .entry)) (now (cells .entry)) 1 0 aim
-        → Explored (joint (now (leads .entry)) (now (rows .entry)) width letters root aim) (now (marks .exit)) (now (cells .exit)) r) ⌝ }
+        → Ready (now (leads .entry)) (now (rows .entry)) width letters root (now (status .entry)) (now (cells .entry)) 1 0 aim
+        → Explored (joint (now (leads .entry)) (now (rows .entry)) width letters root aim) (now (status .exit)) (now (cells .exit)) r) ⌝ }
 {
     let mut total = 1;
     let mut head = 0;
     while head < total {
-        let step = expand(leads, rows, width, letters, root, head, total, marks, cells);
+        let step = expand(
+            leads,
+            rows,
+            width,
+            letters,
+            root,
+            head,
+            total,
+            status,
+            cells,
+        );
         match step {
             Expansion::Ending(code) => {
                 return Expansion::Ending(code);
@@ -120,13 +130,13 @@ pub fn clear(cells: &mut [u64])
     }
 }
 
-// Marks every state as not met.
-pub fn refresh(marks: &mut [u8])
-    ensures { λ _. ⌜ now (marks .exit) ≡ replicate (length (now (marks .entry))) 1 ⌝ }
+// Sets every state as not met.
+pub fn refresh(status: &mut [u8])
+    ensures { λ _. ⌜ now (status .exit) ≡ replicate (length (now (status .entry))) 1 ⌝ }
 {
     let mut i = 0;
-    while i < marks.len() {
-        marks[i] = 1;
+    while i < status.len() {
+        status[i] = 1;
         i += 1;
     }
 }

@@ -16,17 +16,17 @@ use Rattle.search.proofs.expand.Statement.{statement}
 use Rattle.search.proofs.expand.Tie as tie
 
 -- what the letters below a have done, for each aim that the search began with
-record Letters (leads rows : List ℕ) (n s root head total : ℕ) (marks₀ cells₀ : List ℕ) (x : ℕ) (marks cells : List ℕ) (codes a : ℕ) : Type 0 where
-  marks-same : length marks ≡ length marks₀
+record Letters (leads rows : List ℕ) (n s root head total : ℕ) (status₀ cells₀ : List ℕ) (x : ℕ) (status cells : List ℕ) (codes a : ℕ) : Type 0 where
+  status-same : length status ≡ length status₀
   cells-same : length cells ≡ length cells₀
-  all : (aim : Aim) → Ready leads rows n s root marks₀ cells₀ total head aim → Expanding (joint leads rows n s root aim) marks cells codes head a x
+  all : (aim : Aim) → Ready leads rows n s root status₀ cells₀ total head aim → Expanding (joint leads rows n s root aim) status cells codes head a x
 
 abbrev Inv-loop : tie.InvT-loop
-Inv-loop leads rows width letters root head total marks₀ cells₀ place row from lead codes₀ a₀ marks cells codes a =
-    Letters leads rows width letters root head total marks₀ cells₀ (place % 1048576) marks cells codes a
+Inv-loop leads rows width letters root head total status₀ cells₀ place row from lead codes₀ a₀ status cells codes a =
+    Letters leads rows width letters root head total status₀ cells₀ (place % 1048576) status cells codes a
 
 abbrev μ-loop : tie.MeasureT-loop
-μ-loop leads rows width letters root head total marks₀ cells₀ place row from lead codes₀ a₀ marks cells codes a = letters - a
+μ-loop leads rows width letters root head total status₀ cells₀ place row from lead codes₀ a₀ status cells codes a = letters - a
 
 abbrev start : tie.After-place-of Inv-loop μ-loop → tie.Start Inv-loop μ-loop
 start c = c .before .before .before .before .before .before
@@ -36,7 +36,7 @@ module _ (c : tie.After-place-of Inv-loop μ-loop) where
   abbrev s : tie.Start Inv-loop μ-loop
   s = start c
 
-  abbrev given : Searchable (now (s .args .leads)) (now (s .args .rows)) (s .args .width) (s .args .letters) (s .args .root) (now (s .args .marks)) (now (s .args .cells)) (s .args .total) (s .args .head)
+  abbrev given : Searchable (now (s .args .leads)) (now (s .args .rows)) (s .args .width) (s .args .letters) (s .args .root) (now (s .args .status)) (now (s .args .cells)) (s .args .total) (s .args .head)
   given = s .pre .0
 
   abbrev place : ℕ
@@ -65,10 +65,10 @@ module _ (c : tie.In-loop Inv-loop μ-loop) where
   abbrev h : tie.After-place-of Inv-loop μ-loop
   h = head c
 
-  abbrev now-at : Letters (now (start h .args .leads)) (now (start h .args .rows)) (start h .args .width) (start h .args .letters) (start h .args .root) (start h .args .head) (start h .args .total) (now (start h .args .marks)) (now (start h .args .cells)) (x h) (c .before .loop .marks) (c .before .loop .cells) (c .before .loop .codes) (c .before .loop .a)
+  abbrev now-at : Letters (now (start h .args .leads)) (now (start h .args .rows)) (start h .args .width) (start h .args .letters) (start h .args .root) (start h .args .head) (start h .args .total) (now (start h .args .status)) (now (start h .args .cells)) (x h) (c .before .loop .status) (c .before .loop .cells) (c .before .loop .codes) (c .before .loop .a)
   now-at = c .before .loop .inv
 
-  abbrev E : Expanding (P h) (c .before .loop .marks) (c .before .loop .cells) (c .before .loop .codes) (start h .args .head) (c .before .loop .a) (x h)
+  abbrev E : Expanding (P h) (c .before .loop .status) (c .before .loop .cells) (c .before .loop .codes) (start h .args .head) (c .before .loop .a) (x h)
   E = now-at .all (aim h) (given h .ready)
 
   lead-cell : (x h - place h / 1048576 * start h .args .width) * start h .args .letters + c .before .loop .a < length (now (start h .args .leads))
@@ -112,11 +112,11 @@ module _ (c : tie.After-wide162 Inv-loop μ-loop) where
   head-few = let B = given i .ready .bounded in omega (arith, E l .going, codes-few (E l .search), B .few-states, B .low)
 
   -- for each aim
-  module _ (goal : Aim) (r : Ready (now (start i .args .leads)) (now (start i .args .rows)) (start i .args .width) (start i .args .letters) (start i .args .root) (now (start i .args .marks)) (now (start i .args .cells)) (start i .args .total) (start i .args .head) goal) where
+  module _ (goal : Aim) (r : Ready (now (start i .args .leads)) (now (start i .args .rows)) (start i .args .width) (start i .args .letters) (start i .args .root) (now (start i .args .status)) (now (start i .args .cells)) (start i .args .total) (start i .args .head) goal) where
     abbrev Q : Space
     Q = joint (now (start i .args .leads)) (now (start i .args .rows)) (start i .args .width) (start i .args .letters) (start i .args .root) goal
 
-    abbrev F : Expanding Q (l .before .loop .marks) (l .before .loop .cells) (l .before .loop .codes) (start i .args .head) a (x i)
+    abbrev F : Expanding Q (l .before .loop .status) (l .before .loop .cells) (l .before .loop .codes) (start i .args .head) a (x i)
     F = now-at l .all goal r
 
     state-is : value % 1048576 ≡ Q .step (x i) a
@@ -125,22 +125,22 @@ module _ (c : tie.After-wide162 Inv-loop μ-loop) where
     entry-is : value + 1073741824 * (a + 32 * start i .args .head) ≡ entry (Q .step (x i) a) (Q .step (x i) a / start i .args .width) a (start i .args .head)
     entry-is = joint.value-entry (r .tables) (x i) a (expanding-in (r .bounded) F) (l .loop-test .taken) first-is second-is (start i .args .head)
 
-    goes-on : (getD (l .before .loop .marks) (value % 1048576) 0 ≡ 2 → ⊥)
-        → Expanding Q (set (l .before .loop .marks) (value % 1048576) 0) (set (l .before .loop .cells) (l .before .loop .codes - 1) (value + 1073741824 * (a + 32 * start i .args .head)))
-        (l .before .loop .codes + getD (l .before .loop .marks) (value % 1048576) 0) (start i .args .head) (a + 1) (x i)
+    goes-on : (getD (l .before .loop .status) (value % 1048576) 0 ≡ 2 → ⊥)
+        → Expanding Q (set (l .before .loop .status) (value % 1048576) 0) (set (l .before .loop .cells) (l .before .loop .codes - 1) (value + 1073741824 * (a + 32 * start i .args .head)))
+        (l .before .loop .codes + getD (l .before .loop .status) (value % 1048576) 0) (start i .args .head) (a + 1) (x i)
     goes-on m =
-        subst₂ (λ (y v : ℕ). Expanding Q (set (l .before .loop .marks) y 0) (set (l .before .loop .cells) (l .before .loop .codes - 1) v) (l .before .loop .codes + getD (l .before .loop .marks) y 0) (start i .args .head) (a + 1) (x i))
+        subst₂ (λ (y v : ℕ). Expanding Q (set (l .before .loop .status) y 0) (set (l .before .loop .cells) (l .before .loop .codes - 1) v) (l .before .loop .codes + getD (l .before .loop .status) y 0) (start i .args .head) (a + 1) (x i))
         (sym state-is) (sym entry-is)
-        (expanding-on (r .bounded) F (l .loop-test .taken) refl (λ e. m (ap (λ (y : ℕ). getD (l .before .loop .marks) y 0) state-is ∙ e)))
+        (expanding-on (r .bounded) F (l .loop-test .taken) refl (λ e. m (ap (λ (y : ℕ). getD (l .before .loop .status) y 0) state-is ∙ e)))
 
-    ends-here : getD (l .before .loop .marks) (value % 1048576) 0 ≡ 2
+    ends-here : getD (l .before .loop .status) (value % 1048576) 0 ≡ 2
         → Ends Q (set (l .before .loop .cells) (l .before .loop .codes - 1) (value + 1073741824 * (a + 32 * start i .args .head))) (l .before .loop .codes)
     ends-here m =
         subst (λ (v : ℕ). Ends Q (set (l .before .loop .cells) (l .before .loop .codes - 1) v) (l .before .loop .codes)) (sym entry-is)
-        (expanding-ends (r .bounded) F (l .loop-test .taken) refl (sym (ap (λ (y : ℕ). getD (l .before .loop .marks) y 0) state-is) ∙ m))
+        (expanding-ends (r .bounded) F (l .loop-test .taken) refl (sym (ap (λ (y : ℕ). getD (l .before .loop .status) y 0) state-is) ∙ m))
 
-  mark-cell : value % 1048576 < length (l .before .loop .marks)
-  mark-cell =
+  status-cell : value % 1048576 < length (l .before .loop .status)
+  status-cell =
       let r = given i .ready in
       rw (state-is (aim i) r, E l .search .size) (r .bounded .closed (x i) a (known i .inside) (l .loop-test .taken))
 
@@ -173,7 +173,7 @@ mul-lead-2 c =
 
 loop-holds : tie.Need-loop-holds Inv-loop μ-loop
 loop-holds c = record {
-  marks-same = refl;
+  status-same = refl;
   cells-same = refl;
   all = λ aim r. record {
     search = r .search;
@@ -238,13 +238,13 @@ slice-write-cells : tie.Need-slice-write-cells Inv-loop μ-loop
 slice-write-cells c = omega (arith, tail-cell c, E (l c) .search .some)
 
 slice-read-m : tie.Need-slice-read-m Inv-loop μ-loop
-slice-read-m c = mark-cell (c .before)
+slice-read-m c = status-cell (c .before)
 
-slice-write-marks : tie.Need-slice-write-marks Inv-loop μ-loop
-slice-write-marks c = mark-cell (c .before)
+slice-write-status : tie.Need-slice-write-status Inv-loop μ-loop
+slice-write-status c = status-cell (c .before)
 
 same-length : tie.Need-same-length Inv-loop μ-loop
-same-length c = simp length-set (now-at (l (c .before .before)) .marks-same)
+same-length c = simp length-set (now-at (l (c .before .before)) .status-same)
 
 same-length-2 : tie.Need-same-length-2 Inv-loop μ-loop
 same-length-2 c = simp length-set (now-at (l (c .before .before)) .cells-same)
@@ -270,13 +270,13 @@ loop-again : tie.Need-loop-again Inv-loop μ-loop
 loop-again c =
     let d = c .before .before .before in
     record {
-      marks-same = simp length-set (now-at (l d) .marks-same);
+      status-same = simp length-set (now-at (l d) .status-same);
       cells-same = simp length-set (now-at (l d) .cells-same);
       all = λ goal r. rw (c .wide .ensures) (goes-on d goal r (c .before .if1 .left));
     }
 
 same-length-3 : tie.Need-same-length-3 Inv-loop μ-loop
-same-length-3 c = c .before .loop .inv .marks-same
+same-length-3 c = c .before .loop .inv .status-same
 
 same-length-4 : tie.Need-same-length-4 Inv-loop μ-loop
 same-length-4 c = c .before .loop .inv .cells-same
@@ -315,7 +315,7 @@ expand-spec =
     mul-cells-3
     slice-write-cells
     slice-read-m
-    slice-write-marks
+    slice-write-status
     same-length
     same-length-2
     returns

@@ -12,25 +12,25 @@ use Rattle.search.proofs.explore.Statement.{statement}
 use Rattle.search.proofs.explore.Tie as tie
 
 -- what the codes below `head` have done, for each aim that the search began with
-record Codes (leads rows : List ℕ) (n s root : ℕ) (marks₀ cells₀ marks cells : List ℕ) (total head : ℕ) : Type 0 where
-  marks-same : length marks ≡ length marks₀
+record Codes (leads rows : List ℕ) (n s root : ℕ) (status₀ cells₀ status cells : List ℕ) (total head : ℕ) : Type 0 where
+  status-same : length status ≡ length status₀
   cells-same : length cells ≡ length cells₀
-  all : (aim : Aim) → Ready leads rows n s root marks₀ cells₀ 1 0 aim → Search (joint leads rows n s root aim) marks cells total head 0
+  all : (aim : Aim) → Ready leads rows n s root status₀ cells₀ 1 0 aim → Search (joint leads rows n s root aim) status cells total head 0
 
 abbrev Inv-loop : tie.InvT-loop
-Inv-loop leads rows width letters root marks₀ cells₀ total₀ head₀ marks cells total head =
-    Codes leads rows width letters root marks₀ cells₀ marks cells total head
+Inv-loop leads rows width letters root status₀ cells₀ total₀ head₀ status cells total head =
+    Codes leads rows width letters root status₀ cells₀ status cells total head
 
 abbrev μ-loop : tie.MeasureT-loop
-μ-loop leads rows width letters root marks₀ cells₀ total₀ head₀ marks cells total head = length cells₀ - head
+μ-loop leads rows width letters root status₀ cells₀ total₀ head₀ status cells total head = length cells₀ - head
 
 abbrev start : tie.At-loop Inv-loop μ-loop → tie.Start Inv-loop μ-loop
 start c = c .before .before .before .before .before
 
 -- what the search has found where a code is expanded
 ready : (c : tie.At-loop Inv-loop μ-loop) → let a = start c .args in
-    (aim : Aim) → Ready (now (a .leads)) (now (a .rows)) (a .width) (a .letters) (a .root) (now (a .marks)) (now (a .cells)) 1 0 aim
-    → Ready (now (a .leads)) (now (a .rows)) (a .width) (a .letters) (a .root) (c .loop .marks) (c .loop .cells) (c .loop .total) (c .loop .head) aim
+    (aim : Aim) → Ready (now (a .leads)) (now (a .rows)) (a .width) (a .letters) (a .root) (now (a .status)) (now (a .cells)) 1 0 aim
+    → Ready (now (a .leads)) (now (a .rows)) (a .width) (a .letters) (a .root) (c .loop .status) (c .loop .cells) (c .loop .total) (c .loop .head) aim
 ready c aim r = record { tables = r .tables; bounded = r .bounded; leading = r .leading; search = c .loop .inv .all aim r }
 
 room : (c : tie.At-loop Inv-loop μ-loop) → c .loop .total ≤ length (now (start c .args .cells))
@@ -39,7 +39,7 @@ room c =
     let S = c .loop .inv .all (p .aim) (p .ready) in omega (arith, codes-few S, S .room, c .loop .inv .cells-same)
 
 loop-holds : tie.Need-loop-holds Inv-loop μ-loop
-loop-holds c = record { marks-same = refl; cells-same = refl; all = λ aim r. r .search }
+loop-holds c = record { status-same = refl; cells-same = refl; all = λ aim r. r .search }
 
 expand-requires : tie.Need-expand-requires Inv-loop μ-loop
 expand-requires c κs =
@@ -51,7 +51,7 @@ enum-known-step : tie.Need-enum-known-step Inv-loop μ-loop
 enum-known-step c = search needs
 
 same-length : tie.Need-same-length Inv-loop μ-loop
-same-length c = let e = c .before .before .before .before .before .before .before in e .expand .kept .1 .1 .1 .1 .1 .1 .1 .0 ∙ e .before .before .before .before .loop .inv .marks-same
+same-length c = let e = c .before .before .before .before .before .before .before in e .expand .kept .1 .1 .1 .1 .1 .1 .1 .0 ∙ e .before .before .before .before .loop .inv .status-same
 
 same-length-2 : tie.Need-same-length-2 Inv-loop μ-loop
 same-length-2 c = let e = c .before .before .before .before .before .before .before in e .expand .kept .1 .1 .1 .1 .1 .1 .1 .1 .0 ∙ e .before .before .before .before .loop .inv .cells-same
@@ -80,13 +80,13 @@ loop-again c =
     let e = c .before .before .before .before .before .before .before in
     let l = e .before .before .before .before in
     record {
-      marks-same = e .expand .kept .1 .1 .1 .1 .1 .1 .1 .0 ∙ l .loop .inv .marks-same;
+      status-same = e .expand .kept .1 .1 .1 .1 .1 .1 .1 .0 ∙ l .loop .inv .status-same;
       cells-same = e .expand .kept .1 .1 .1 .1 .1 .1 .1 .1 .0 ∙ l .loop .inv .cells-same;
       all = λ aim r. subst (Expanded (joint (now (start l .args .leads)) (now (start l .args .rows)) (start l .args .width) (start l .args .letters) (start l .args .root) aim) _ _ (l .loop .head)) (c .before .step2 .given .1) (e .expand .ensures aim (ready l aim r));
     }
 
 same-length-3 : tie.Need-same-length-3 Inv-loop μ-loop
-same-length-3 c = c .before .loop .inv .marks-same
+same-length-3 c = c .before .loop .inv .status-same
 
 same-length-4 : tie.Need-same-length-4 Inv-loop μ-loop
 same-length-4 c = c .before .loop .inv .cells-same
@@ -96,7 +96,7 @@ returns-2 c = λ aim r.
     let l = c .before in
     let S = l .loop .inv .all aim r in
     let h : l .loop .head ≡ l .loop .total = omega (arith, c .loop-test .left, S .upto) in
-    subst (λ (k : ℕ). Search (joint (now (start l .args .leads)) (now (start l .args .rows)) (start l .args .width) (start l .args .letters) (start l .args .root) aim) (l .loop .marks) (l .loop .cells) (l .loop .total) k 0) h S
+    subst (λ (k : ℕ). Search (joint (now (start l .args .leads)) (now (start l .args .rows)) (start l .args .width) (start l .args .letters) (start l .args .root) aim) (l .loop .status) (l .loop .cells) (l .loop .total) k 0) h S
 
 pub explore-spec : {M : Type 1} → statement M
 explore-spec =

@@ -9,16 +9,16 @@ use Rattle.search.proofs.refresh.Statement.{statement}
 use Rattle.search.proofs.refresh.Tie as tie
 
 abbrev Inv-loop : tie.InvT-loop
-Inv-loop marks₀ i₀ marks i = Filling (length marks₀) (λ k. 1) marks₀ marks i
+Inv-loop status₀ i₀ status i = Filling (length status₀) (λ k. 1) status₀ status i
 
 abbrev μ-loop : tie.MeasureT-loop
-μ-loop marks₀ i₀ marks i = length marks₀ - i
+μ-loop status₀ i₀ status i = length status₀ - i
 
 loop-holds : tie.Need-loop-holds Inv-loop μ-loop
 loop-holds c = filling-none _ _ _ (le-refl _)
 
-slice-write-marks : tie.Need-slice-write-marks Inv-loop μ-loop
-slice-write-marks c = c .loop-test .taken
+slice-write-status : tie.Need-slice-write-status Inv-loop μ-loop
+slice-write-status c = c .loop-test .taken
 
 add-i : tie.Need-add-i Inv-loop μ-loop
 add-i c = let i = c .before .loop .inv in omega (arith, i .same, c .loop-test .taken, c .before .before .good)
@@ -38,4 +38,4 @@ returns c = let i = c .before .loop .inv in filling-value i (omega (arith, i .sa
 pub refresh-spec : {M : Type 1} → statement M
 refresh-spec =
     tie.close
-    (tie.spec Inv-loop μ-loop loop-holds slice-write-marks add-i loop-less loop-again same-length returns)
+    (tie.spec Inv-loop μ-loop loop-holds slice-write-status add-i loop-less loop-again same-length returns)

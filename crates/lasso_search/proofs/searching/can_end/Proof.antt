@@ -8,15 +8,15 @@ use borrow.Author.Needs.{needs}
 use denote.Ref.{now}
 use lib.ListN.{length, replicate}
 use Rattle.search.specs.Search.{Explored, joint, Ready}
-use Rattle.lasso_search.specs.Codes.{Tabulated, Marked}
+use Rattle.lasso_search.specs.Codes.{Tabulated, Fresh}
 use Rattle.lasso_search.proofs.Joined.{aimAt, begin, no-ending}
 use Rattle.lasso_search.proofs.Leading.{stands-still, run-still}
 use Rattle.lasso_search.proofs.searching.can_end.Statement.{statement}
 use Rattle.lasso_search.proofs.searching.can_end.Tie as tie
 
 -- the search of the progress alone begins
-starts : {rows : List ℕ} {count s : ℕ} {f : ℕ → ℕ → ℕ} {e : ℕ → Bool} {marks cells : List ℕ} → Tabulated rows count s f → Marked marks 1 0 count e → 0 < count → count + 1 ≤ length cells
-    → Ready (replicate 32 0) rows 1 s 0 marks cells 1 0 (aimAt 1 0 count e)
+starts : {rows : List ℕ} {count s : ℕ} {f : ℕ → ℕ → ℕ} {e : ℕ → Bool} {status cells : List ℕ} → Tabulated rows count s f → Fresh status 1 0 count e → 0 < count → count + 1 ≤ length cells
+    → Ready (replicate 32 0) rows 1 s 0 status cells 1 0 (aimAt 1 0 count e)
 starts {e = e} t m some room = begin (stands-still (t .few-letters)) t (omega arith) (omega arith) some e m (omega arith)
 
 slice-aggregate-explore : tie.Need-slice-aggregate-explore

@@ -30,34 +30,34 @@ use Rattle.lasso_search.proofs.searching.find.Statement.{statement}
 use Rattle.lasso_search.proofs.searching.find.Tie as tie
 
 -- the candidates before c are done with
-record Candidates (P : Fdfa) (n reached : ℕ) (rows₀ marks₀ work₀ rows marks work : List ℕ) (out : Codes) (c : Candidate) : Type 0 where
+record Candidates (P : Fdfa) (n reached : ℕ) (rows₀ status₀ work₀ rows status work : List ℕ) (out : Codes) (c : Candidate) : Type 0 where
   rows-same : length rows ≡ length rows₀
-  marks-same : length marks ≡ length marks₀
+  status-same : length status ≡ length status₀
   work-same : length work ≡ length work₀
   out-is : out ≡ Absent reached
-  next : Next P n reached 0 rows marks work work c
+  next : Next P n reached 0 rows status work work c
 
 -- and the codes below h of the search from c
-record Turns (P : Fdfa) (leads rows : List ℕ) (n s reached : ℕ) (marks₀ work₀ marks work : List ℕ) (out : Codes) (c : Candidate) (all total h : ℕ) : Type 0 where
-  marks-same : length marks ≡ length marks₀
+record Turns (P : Fdfa) (leads rows : List ℕ) (n s reached : ℕ) (status₀ work₀ status work : List ℕ) (out : Codes) (c : Candidate) (all total h : ℕ) : Type 0 where
+  status-same : length status ≡ length status₀
   work-same : length work ≡ length work₀
   out-is : out ≡ Absent reached
   kept : take (n - 1) work ≡ take (n - 1) work₀
-  ready : Ready leads rows n s (c .state) (take all marks) (take (length work - (n - 1)) (drop (n - 1) work)) total h (aimAt n (c .state) (c .count) (P .accepting (c .state)))
+  ready : Ready leads rows n s (c .state) (take all status) (take (length work - (n - 1)) (drop (n - 1) work)) total h (aimAt n (c .state) (c .count) (P .accepting (c .state)))
 
 abbrev Inv-loop : tie.InvT-loop
-Inv-loop first second t n leads rows marks₀ work₀ front reached out₀ c q all total₀ h₀ marks work out total h =
-    Turns (difference first second) leads rows n (t .letters) reached marks₀ work₀ marks work out c all total h
+Inv-loop first second t n leads rows status₀ work₀ front reached out₀ c q all total₀ h₀ status work out total h =
+    Turns (difference first second) leads rows n (t .letters) reached status₀ work₀ status work out c all total h
 
 abbrev μ-loop : tie.MeasureT-loop
-μ-loop first second t n leads rows marks₀ work₀ front reached out₀ c q all total₀ h₀ marks work out total h = length work₀ - front - h
+μ-loop first second t n leads rows status₀ work₀ front reached out₀ c q all total₀ h₀ status work out total h = length work₀ - front - h
 
 abbrev Inv-search : tie.InvT-search
-Inv-search first second t n leads rows₀ marks₀ work₀ front reached out₀ c₀ rows marks work out c =
-    Candidates (difference first second) n reached rows₀ marks₀ work₀ rows marks work out c
+Inv-search first second t n leads rows₀ status₀ work₀ front reached out₀ c₀ rows status work out c =
+    Candidates (difference first second) n reached rows₀ status₀ work₀ rows status work out c
 
 abbrev μ-search : tie.MeasureT-search
-μ-search first second t n leads rows₀ marks₀ work₀ front reached out₀ c₀ rows marks work out c = reached - c .code
+μ-search first second t n leads rows₀ status₀ work₀ front reached out₀ c₀ rows status work out c = reached - c .code
 
 -- what the call is given
 module _ (s : tie.Start Inv-loop μ-loop Inv-search μ-search) where
@@ -76,7 +76,7 @@ module _ (s : tie.Start Inv-loop μ-loop Inv-search μ-search) where
   abbrev front : ℕ
   front = n - 1
 
-  can : CanFind b d (s .args .t) n (length (now (s .args .leads))) (length (now (s .args .rows))) (length (now (s .args .marks))) (length (now (s .args .work)))
+  can : CanFind b d (s .args .t) n (length (now (s .args .leads))) (length (now (s .args .rows))) (length (now (s .args .status))) (length (now (s .args .work)))
   can = s .pre
 
   letters : s .args .t .letters ≡ P .letters
@@ -139,20 +139,20 @@ module _ (r : tie.After-reach Inv-loop μ-loop Inv-search μ-search) where
   abbrev S : tie.Start Inv-loop μ-loop Inv-search μ-search
   S = begun made
 
-  abbrev marks₁ : List ℕ
-  marks₁ = r .reach .last .1 .1 .1 .0 ++ drop (n S) (now (S .args .marks))
+  abbrev status₁ : List ℕ
+  status₁ = r .reach .last .1 .1 .1 .0 ++ drop (n S) (now (S .args .status))
 
   abbrev work₁ : List ℕ
   work₁ = r .reach .last .1 .1 .1 .1 .0 ++ drop (n S) (now (S .args .work))
 
-  marks₁-same : length marks₁ ≡ length (now (S .args .marks))
-  marks₁-same = length-front (now (S .args .marks)) (r .reach .last .1 .1 .1 .0) (n S) (r .reach .kept .1 .1 .1 .0)
+  status₁-same : length status₁ ≡ length (now (S .args .status))
+  status₁-same = length-front (now (S .args .status)) (r .reach .last .1 .1 .1 .0) (n S) (r .reach .kept .1 .1 .1 .0)
 
   work₁-same : length work₁ ≡ length (now (S .args .work))
   work₁-same = length-front (now (S .args .work)) (r .reach .last .1 .1 .1 .1 .0) (n S) (r .reach .kept .1 .1 .1 .1 .0)
 
-  room₁ : Room (P S) (n S) (length (now (S .args .rows))) (length marks₁) (length work₁ - front S)
-  room₁ = room-as (can S .room) refl marks₁-same (ap (λ (l : ℕ). l - front S) work₁-same)
+  room₁ : Room (P S) (n S) (length (now (S .args .rows))) (length status₁) (length work₁ - front S)
+  room₁ = room-as (can S .room) refl status₁-same (ap (λ (l : ℕ). l - front S) work₁-same)
 
   round₁ : Round (P S) (take (front S) work₁) (r .reach .result) 0
   round₁ =
@@ -172,13 +172,13 @@ next-candidate-requires c κs =
     ((can (S r) .alike, can (S r) .tables), (room₁ r, round₁ r))
 
 -- what stands for a candidate that was found, whatever code the search for it began at
-again : {P : Fdfa} {n reached from : ℕ} {rows marks before work : List ℕ} {c : Candidate} → Next P n reached from rows marks before work c → Next P n reached 0 rows marks work work c
+again : {P : Fdfa} {n reached from : ℕ} {rows status before work : List ℕ} {c : Candidate} → Next P n reached from rows status before work c → Next P n reached 0 rows status work work c
 again N = record { kept = refl; later = omega arith; round = N .round; state = N .state; some = N .some; prepared = N .prepared }
 
 search-holds : tie.Need-search-holds Inv-loop μ-loop Inv-search μ-search
 search-holds c =
     let p = c .before .before .before .before .before .before in
-    record { rows-same = refl; marks-same = refl; work-same = refl; out-is = refl; next = again (p .next-candidate .ensures) }
+    record { rows-same = refl; status-same = refl; work-same = refl; out-is = refl; next = again (p .next-candidate .ensures) }
 
 -- at a candidate
 module _ (c : tie.At-search Inv-loop μ-loop Inv-search μ-search) where
@@ -194,28 +194,28 @@ module _ (c : tie.At-search Inv-loop μ-loop Inv-search μ-search) where
   rows-long : length (c .search .rows) ≡ length (now (S r .args .rows))
   rows-long = c .search .inv .rows-same ∙ p .next-candidate .kept .1 .1 .1 .1 .1 .1 .0
 
-  marks-long : length (c .search .marks) ≡ length (now (S r .args .marks))
-  marks-long = c .search .inv .marks-same ∙ (p .next-candidate .kept .1 .1 .1 .1 .1 .1 .1 .0 ∙ marks₁-same r)
+  status-long : length (c .search .status) ≡ length (now (S r .args .status))
+  status-long = c .search .inv .status-same ∙ (p .next-candidate .kept .1 .1 .1 .1 .1 .1 .1 .0 ∙ status₁-same r)
 
   work-long : length (c .search .work) ≡ length (now (S r .args .work))
   work-long = c .search .inv .work-same ∙ (p .next-candidate .kept .1 .1 .1 .1 .1 .1 .1 .1 .0 ∙ work₁-same r)
 
-  standing : Standing (P (S r)) (n (S r)) (S r .args .t .letters) reached (leads (made r)) (c .search .rows) (c .search .marks) (c .search .work) (c .search .c)
+  standing : Standing (P (S r)) (n (S r)) (S r .args .t .letters) reached (leads (made r)) (c .search .rows) (c .search .status) (c .search .work) (c .search .c)
   standing = record {
     complete = complete (can (S r) .alike);
     letters = letters (S r);
     table = leads-table (made r);
-    room = room-as (can (S r) .room) rows-long marks-long (ap (λ (l : ℕ). l - front (S r)) work-long);
+    room = room-as (can (S r) .room) rows-long status-long (ap (λ (l : ℕ). l - front (S r)) work-long);
     next = c .search .inv .next;
   }
 
 mul-all : tie.Need-mul-all Inv-loop μ-loop Inv-search μ-search
-mul-all c = let e = c .before .before .before in omega (arith, all-room (standing e) (c .before .if1 .taken), marks-long e, S (r e) .good)
+mul-all c = let e = c .before .before .before in omega (arith, all-room (standing e) (c .before .if1 .taken), status-long e, S (r e) .good)
 
 loop-holds : tie.Need-loop-holds Inv-loop μ-loop Inv-search μ-search
 loop-holds c =
     let e = c .before .before .before in
-    record { marks-same = refl; work-same = refl; out-is = e .search .inv .out-is; kept = refl; ready = begins (standing e) (c .before .if1 .taken) }
+    record { status-same = refl; work-same = refl; out-is = e .search .inv .out-is; kept = refl; ready = begins (standing e) (c .before .if1 .taken) }
 
 -- a turn of the search from a candidate
 module _ (c : tie.At-loop Inv-loop μ-loop Inv-search μ-search) where
@@ -231,8 +231,8 @@ module _ (c : tie.At-loop Inv-loop μ-loop Inv-search μ-search) where
   abbrev all : ℕ
   all = o .search .c .count * n T
 
-  marks-in : all ≤ length (c .loop .marks)
-  marks-in = omega (arith, all-room (standing o) here, c .loop .inv .marks-same)
+  status-in : all ≤ length (c .loop .status)
+  status-in = omega (arith, all-room (standing o) here, c .loop .inv .status-same)
 
   turn-front : front T ≤ length (c .loop .work)
   turn-front = omega (arith, c .loop .inv .work-same, front-in (standing o))
@@ -243,10 +243,10 @@ module _ (c : tie.At-loop Inv-loop μ-loop Inv-search μ-search) where
       omega (arith, codes-few F, F .room, tail-long (front T) (c .loop .work) turn-front, c .loop .inv .work-same)
 
 slice-relend-prefix-expand : tie.Need-slice-relend-prefix-expand Inv-loop μ-loop Inv-search μ-search
-slice-relend-prefix-expand c = marks-in (c .before .before .before)
+slice-relend-prefix-expand c = status-in (c .before .before .before)
 
 slice-aggregate-expand : tie.Need-slice-aggregate-expand Inv-loop μ-loop Inv-search μ-search
-slice-aggregate-expand c = sym (length-take-le _ _ (marks-in (c .before .before .before .before)))
+slice-aggregate-expand c = sym (length-take-le _ _ (status-in (c .before .before .before .before)))
 
 mul-expand : tie.Need-mul-expand Inv-loop μ-loop Inv-search μ-search
 mul-expand c = let l = c .before .before .before .before in omega (arith, front-in (standing (o l)), work-long (o l), T l .good)
@@ -286,8 +286,8 @@ module _ (x : tie.After-expand Inv-loop μ-loop Inv-search μ-search) where
   abbrev zs : List ℕ
   zs = x .expand .last .1 .1 .1 .1 .1 .1 .1 .1 .0
 
-  abbrev marks₂ : List ℕ
-  marks₂ = ms ++ drop (all l) (l .loop .marks)
+  abbrev status₂ : List ℕ
+  status₂ = ms ++ drop (all l) (l .loop .status)
 
   abbrev work₂ : List ℕ
   work₂ = take (front (T l)) work ++ (zs ++ drop (length work - front (T l)) (drop (front (T l)) work))
@@ -295,8 +295,8 @@ module _ (x : tie.After-expand Inv-loop μ-loop Inv-search μ-search) where
   kept-cells : length zs ≡ length (take (length work - front (T l)) (drop (front (T l)) work))
   kept-cells = x .expand .kept .1 .1 .1 .1 .1 .1 .1 .1 .0
 
-  marks₂-same : length marks₂ ≡ length (o l .search .marks)
-  marks₂-same = length-front (l .loop .marks) ms (all l) (x .expand .kept .1 .1 .1 .1 .1 .1 .1 .0) ∙ l .loop .inv .marks-same
+  status₂-same : length status₂ ≡ length (o l .search .status)
+  status₂-same = length-front (l .loop .status) ms (all l) (x .expand .kept .1 .1 .1 .1 .1 .1 .1 .0) ∙ l .loop .inv .status-same
 
   work₂-long : length work₂ ≡ length work
   work₂-long = returned-long (front (T l)) work (turn-front l) zs kept-cells
@@ -304,8 +304,8 @@ module _ (x : tie.After-expand Inv-loop μ-loop Inv-search μ-search) where
   work₂-same : length work₂ ≡ length (o l .search .work)
   work₂-same = work₂-long ∙ l .loop .inv .work-same
 
-  marks-back : take (all l) marks₂ ≡ ms
-  marks-back = take-at ms _ (all l) (x .expand .kept .1 .1 .1 .1 .1 .1 .1 .0 ∙ length-take-le (all l) (l .loop .marks) (marks-in l))
+  status-back : take (all l) status₂ ≡ ms
+  status-back = take-at ms _ (all l) (x .expand .kept .1 .1 .1 .1 .1 .1 .1 .0 ∙ length-take-le (all l) (l .loop .status) (status-in l))
 
   cells-back : take (length work₂ - front (T l)) (drop (front (T l)) work₂) ≡ zs
   cells-back = ap (λ (j : ℕ). take (j - front (T l)) (drop (front (T l)) work₂)) work₂-long ∙ returned-tail (front (T l)) work (turn-front l) zs kept-cells
@@ -322,10 +322,10 @@ module _ (x : tie.After-expand Inv-loop μ-loop Inv-search μ-search) where
       (x .expand .ensures (aim (standing (o l)) (here l) (n (T l))) (l .loop .inv .ready))
 
   ready₂ : {total : ℕ} → Search (joint (leads (made (r (o l)))) (o l .search .rows) (n (T l)) (T l .args .t .letters) q (aim (standing (o l)) (here l) (n (T l)))) ms zs total (l .loop .h + 1) 0
-      → Ready (leads (made (r (o l)))) (o l .search .rows) (n (T l)) (T l .args .t .letters) q (take (all l) marks₂) (take (length work₂ - front (T l)) (drop (front (T l)) work₂)) total (l .loop .h + 1) (aim (standing (o l)) (here l) (n (T l)))
+      → Ready (leads (made (r (o l)))) (o l .search .rows) (n (T l)) (T l .args .t .letters) q (take (all l) status₂) (take (length work₂ - front (T l)) (drop (front (T l)) work₂)) total (l .loop .h + 1) (aim (standing (o l)) (here l) (n (T l)))
   ready₂ {total} found =
       let R = l .loop .inv .ready in
-      subst₂ (λ (y z : List ℕ). Ready (leads (made (r (o l)))) (o l .search .rows) (n (T l)) (T l .args .t .letters) q y z total (l .loop .h + 1) (aim (standing (o l)) (here l) (n (T l)))) (sym marks-back) (sym cells-back)
+      subst₂ (λ (y z : List ℕ). Ready (leads (made (r (o l)))) (o l .search .rows) (n (T l)) (T l .args .t .letters) q y z total (l .loop .h + 1) (aim (standing (o l)) (here l) (n (T l)))) (sym status-back) (sym cells-back)
       (record { tables = R .tables; bounded = R .bounded; leading = R .leading; search = found })
 
 abbrev of-on : tie.After-known-told2 Inv-loop μ-loop Inv-search μ-search → tie.After-expand Inv-loop μ-loop Inv-search μ-search
@@ -343,7 +343,7 @@ loop-less c =
 loop-again : tie.Need-loop-again Inv-loop μ-loop Inv-search μ-search
 loop-again c =
     let x = of-on c in
-    record { marks-same = marks₂-same x; work-same = work₂-same x; out-is = l x .loop .inv .out-is; kept = kept₂ x; ready = ready₂ x (expanded x (c .before .step2 .given .1)) }
+    record { status-same = status₂-same x; work-same = work₂-same x; out-is = l x .loop .inv .out-is; kept = kept₂ x; ready = ready₂ x (expanded x (c .before .step2 .given .1)) }
 
 -- a candidate whose search is exhausted
 add-next-candidate : tie.Need-add-next-candidate Inv-loop μ-loop Inv-search μ-search
@@ -359,7 +359,7 @@ next-candidate-requires-2 c κs =
     let I = y .loop .inv in (
       (can (T y) .alike, can (T y) .tables),
       (
-        room-as (F .room) refl (I .marks-same) (ap (λ (j : ℕ). j - front (T y)) (I .work-same)),
+        room-as (F .room) refl (I .status-same) (ap (λ (j : ℕ). j - front (T y)) (I .work-same)),
         subst (λ (w : List ℕ). Round (P (T y)) w (reached (o y)) (o y .search .c .code + 1)) (sym (I .kept)) (exhausts F (here y) (I .ready) (c .before .before .before .before .loop-test .left)),
       ),
     )
@@ -380,7 +380,7 @@ search-again c =
     let J = o y .search .inv in
     record {
       rows-same = z .next-candidate2 .kept .1 .1 .1 .1 .1 .1 .0 ∙ J .rows-same;
-      marks-same = z .next-candidate2 .kept .1 .1 .1 .1 .1 .1 .1 .0 ∙ (y .loop .inv .marks-same ∙ J .marks-same);
+      status-same = z .next-candidate2 .kept .1 .1 .1 .1 .1 .1 .1 .0 ∙ (y .loop .inv .status-same ∙ J .status-same);
       work-same = z .next-candidate2 .kept .1 .1 .1 .1 .1 .1 .1 .1 .0 ∙ (y .loop .inv .work-same ∙ J .work-same);
       out-is = y .loop .inv .out-is;
       next = again (z .next-candidate2 .ensures);
@@ -393,7 +393,7 @@ same-length-2 : tie.Need-same-length-2 Inv-loop μ-loop Inv-search μ-search
 same-length-2 c = rows-long (c .before .before)
 
 same-length-3 : tie.Need-same-length-3 Inv-loop μ-loop Inv-search μ-search
-same-length-3 c = marks-long (c .before .before)
+same-length-3 c = status-long (c .before .before)
 
 same-length-4 : tie.Need-same-length-4 Inv-loop μ-loop Inv-search μ-search
 same-length-4 c = work-long (c .before .before)
@@ -415,7 +415,7 @@ same-length-6 : tie.Need-same-length-6 Inv-loop μ-loop Inv-search μ-search
 same-length-6 c = rows-long (o (l (of-ending c)))
 
 same-length-7 : tie.Need-same-length-7 Inv-loop μ-loop Inv-search μ-search
-same-length-7 c = let x = of-ending c in marks₂-same x ∙ marks-long (o (l x))
+same-length-7 c = let x = of-ending c in status₂-same x ∙ status-long (o (l x))
 
 same-length-8 : tie.Need-same-length-8 Inv-loop μ-loop Inv-search μ-search
 same-length-8 c = let x = of-ending c in work₂-same x ∙ work-long (o (l x))

@@ -20,8 +20,8 @@ module _ (l : tie.After-leads) where
   few-widest : s .args .sizes .widest * l .leads .result .letters ≤ 32768
   few-widest = widest-fits (s .pre .0) (l .leads .ensures) (s .pre .1)
 
-  can : {leads rows marks : ℕ} → s .args .sizes .pairs * l .leads .result .letters ≤ leads → s .args .sizes .widest * l .leads .result .letters ≤ rows → s .args .sizes .pairs * s .args .sizes .widest ≤ marks
-      → CanFind (now (s .args .first)) (now (s .args .second)) (l .leads .result) (s .args .sizes .pairs) leads rows marks (length (now (s .args .work)))
+  can : {leads rows status : ℕ} → s .args .sizes .pairs * l .leads .result .letters ≤ leads → s .args .sizes .widest * l .leads .result .letters ≤ rows → s .args .sizes .pairs * s .args .sizes .widest ≤ status
+      → CanFind (now (s .args .first)) (now (s .args .second)) (l .leads .result) (s .args .sizes .pairs) leads rows status (length (now (s .args .work)))
   can n w m = can-find (s .pre .0) (l .leads .ensures) (s .pre .1) n w m (s .pre .2)
 
 leads-requires : tie.Need-leads-requires

@@ -20,20 +20,20 @@ use Rattle.lasso_search.proofs.searching.next_candidate.Statement.{stat
 use Rattle.lasso_search.proofs.searching.next_candidate.Tie as tie
 
 -- none of the codes below i is a candidate, and the first cells are as they were
-record Passed (P : Fdfa) (front reached from : ℕ) (rows₀ marks₀ work₀ rows marks work : List ℕ) (i : ℕ) : Type 0 where
+record Passed (P : Fdfa) (front reached from : ℕ) (rows₀ status₀ work₀ rows status work : List ℕ) (i : ℕ) : Type 0 where
   rows-same : length rows ≡ length rows₀
-  marks-same : length marks ≡ length marks₀
+  status-same : length status ≡ length status₀
   work-same : length work ≡ length work₀
   kept : take front work ≡ take front work₀
   later : from ≤ i
   round : Round P (take front work) reached i
 
 abbrev Inv-loop : tie.InvT-loop
-Inv-loop first second t n reached from rows₀ marks₀ work₀ front i₀ rows marks work i =
-    Passed (difference first second) front reached from rows₀ marks₀ work₀ rows marks work i
+Inv-loop first second t n reached from rows₀ status₀ work₀ front i₀ rows status work i =
+    Passed (difference first second) front reached from rows₀ status₀ work₀ rows status work i
 
 abbrev μ-loop : tie.MeasureT-loop
-μ-loop first second t n reached from rows₀ marks₀ work₀ front i₀ rows marks work i = reached - i
+μ-loop first second t n reached from rows₀ status₀ work₀ front i₀ rows status work i = reached - i
 
 -- what the call is given
 module _ (s : tie.Start Inv-loop μ-loop) where
@@ -46,7 +46,7 @@ module _ (s : tie.Start Inv-loop μ-loop) where
   alike : Alike (now (s .args .first)) (now (s .args .second))
   alike = s .pre .0 .0
 
-  room : Room P (s .args .n) (length (now (s .args .rows))) (length (now (s .args .marks))) (length (now (s .args .work)) - front)
+  room : Room P (s .args .n) (length (now (s .args .rows))) (length (now (s .args .status))) (length (now (s .args .work)) - front)
   room = s .pre .1 .0
 
   some : 0 < s .args .n
@@ -75,7 +75,7 @@ sub-front c = some (c .before .before .before .before .before)
 loop-holds : tie.Need-loop-holds Inv-loop μ-loop
 loop-holds c =
     let s = c .before .before .before .before .before in
-    record { rows-same = refl; marks-same = refl; work-same = refl; kept = refl; later = omega arith; round = s .pre .1 .1 }
+    record { rows-same = refl; status-same = refl; work-same = refl; kept = refl; later = omega arith; round = s .pre .1 .1 }
 
 slice-reshare-prefix-state-of : tie.Need-slice-reshare-prefix-state-of Inv-loop μ-loop
 slice-reshare-prefix-state-of c = fits (c .before)
@@ -118,7 +118,7 @@ prepare-requires c κs =
     let R = room (S e) in
     let I = e .loop .inv in
     let l = tail-long (front (S e)) (work e) (fits e) ∙ ap (λ (j : ℕ). j - front (S e)) (I .work-same) in
-    ((alike (S e), S e .pre .0 .1, omega (arith, q-in m, R .all)), room-as R (I .rows-same) (I .marks-same) l)
+    ((alike (S e), S e .pre .0 .1, omega (arith, q-in m, R .all)), room-as R (I .rows-same) (I .status-same) l)
 
 -- what preparing leaves
 module _ (p : tie.After-prepare Inv-loop μ-loop) where
@@ -149,8 +149,8 @@ module _ (p : tie.After-prepare Inv-loop μ-loop) where
   rows₁-same : length (p .prepare .last .1 .1 .1 .1 .1 .0) ≡ length (now (S e .args .rows))
   rows₁-same = p .prepare .kept .1 .1 .1 .1 .1 .0 ∙ e .loop .inv .rows-same
 
-  marks₁-same : length (p .prepare .last .1 .1 .1 .1 .1 .1 .0) ≡ length (now (S e .args .marks))
-  marks₁-same = p .prepare .kept .1 .1 .1 .1 .1 .1 .0 ∙ e .loop .inv .marks-same
+  status₁-same : length (p .prepare .last .1 .1 .1 .1 .1 .1 .0) ≡ length (now (S e .args .status))
+  status₁-same = p .prepare .kept .1 .1 .1 .1 .1 .1 .0 ∙ e .loop .inv .status-same
 
 abbrev of-then : tie.Then1 Inv-loop μ-loop → tie.After-prepare Inv-loop μ-loop
 of-then c = c .before .before .before .before .before .before .before
@@ -162,7 +162,7 @@ same-length : tie.Need-same-length Inv-loop μ-loop
 same-length c = rows₁-same (of-then c)
 
 same-length-2 : tie.Need-same-length-2 Inv-loop μ-loop
-same-length-2 c = marks₁-same (of-then c)
+same-length-2 c = status₁-same (of-then c)
 
 same-length-3 : tie.Need-same-length-3 Inv-loop μ-loop
 same-length-3 c = work₁-same (of-then c)
@@ -190,7 +190,7 @@ loop-again c =
     let p = of-else c in
     record {
       rows-same = rows₁-same p;
-      marks-same = marks₁-same p;
+      status-same = status₁-same p;
       work-same = work₁-same p;
       kept = same-front p ∙ e p .loop .inv .kept;
       later = omega (arith, e p .loop .inv .later);
@@ -201,7 +201,7 @@ same-length-4 : tie.Need-same-length-4 Inv-loop μ-loop
 same-length-4 c = c .before .loop .inv .rows-same
 
 same-length-5 : tie.Need-same-length-5 Inv-loop μ-loop
-same-length-5 c = c .before .loop .inv .marks-same
+same-length-5 c = c .before .loop .inv .status-same
 
 same-length-6 : tie.Need-same-length-6 Inv-loop μ-loop
 same-length-6 c = c .before .loop .inv .work-same

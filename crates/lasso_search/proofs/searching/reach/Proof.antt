@@ -12,20 +12,20 @@ use Rattle.lasso_search.proofs.Leading.{everywhere, begin-leads, leads-
 use Rattle.lasso_search.proofs.searching.reach.Statement.{statement}
 use Rattle.lasso_search.proofs.searching.reach.Tie as tie
 
--- the marks as the search begins
-begins : {marks leads cells : List ℕ} {n m s : ℕ} {f : ℕ → ℕ → ℕ} → marks ≡ replicate m 1 → m ≡ n → length cells ≡ n → 0 < n → Tabulated leads n s f
-    → Ready leads (replicate 32 0) n s 0 (set marks 0 0) cells 1 0 everywhere
+-- the status as the search begins
+begins : {status leads cells : List ℕ} {n m s : ℕ} {f : ℕ → ℕ → ℕ} → status ≡ replicate m 1 → m ≡ n → length cells ≡ n → 0 < n → Tabulated leads n s f
+    → Ready leads (replicate 32 0) n s 0 (set status 0 0) cells 1 0 everywhere
 begins {leads = leads} {cells = cells} {n = n} {s = s} e d r some t =
     subst (λ (l : List ℕ). Ready leads (replicate 32 0) n s 0 (set l 0 0) cells 1 0 everywhere) (sym (e ∙ ap (λ (k : ℕ). replicate k 1) d)) (begin-leads t some (omega arith))
 
 refresh-requires : tie.Need-refresh-requires
 refresh-requires c κs = search needs
 
-slice-write-marks : tie.Need-slice-write-marks
-slice-write-marks c =
+slice-write-status : tie.Need-slice-write-status
+slice-write-status c =
     let r = c .before .before in
     let s = r .before .before .before .before .before in
-    let l : length (r .refresh .last .0) ≡ length (now (s .args .marks)) = ap length (r .refresh .ensures) ∙ length-replicate {A = ℕ} _ 1 in
+    let l : length (r .refresh .last .0) ≡ length (now (s .args .status)) = ap length (r .refresh .ensures) ∙ length-replicate {A = ℕ} _ 1 in
     omega (arith, l, s .pre .1, s .pre .2)
 
 slice-aggregate-explore : tie.Need-slice-aggregate-explore
@@ -45,7 +45,7 @@ enum-told : tie.Need-enum-told
 enum-told c = search needs
 
 -- the lengths are kept
-kept : (c : tie.After-explore) → length (c .explore .last .1 .1 .1 .1 .1 .0) ≡ length (now (c .before .before .before .before .before .before .before .before .before .before .before .args .marks))
+kept : (c : tie.After-explore) → length (c .explore .last .1 .1 .1 .1 .1 .0) ≡ length (now (c .before .before .before .before .before .before .before .before .before .before .before .args .status))
 kept c =
     let r = c .before .before .before .before .before .before in
     c .explore .kept .1 .1 .1 .1 .1 .0 ∙ (simp length-set (ap length (r .refresh .ensures) ∙ length-replicate {A = ℕ} _ 1))
@@ -87,7 +87,7 @@ reach-spec =
     tie.close
     (tie.spec
     refresh-requires
-    slice-write-marks
+    slice-write-status
     slice-aggregate-explore
     explore-requires
     enum-known-found

@@ -1,4 +1,4 @@
--- `lasso_search::marking::mark_of` meets its contract. Assumes nothing.
+-- `lasso_search::setting::status_of` meets its contract. Assumes nothing.
 use mathlib.Core.Path.{_≡_, sym, _∙_}
 use mathlib.Core.Bool.{Bool, true, false, not, _&&_}
 use Prim.Native.Nat.{_+_, _%_}
@@ -7,9 +7,9 @@ use denote.Ref.{now}
 use lib.Dec.{eqb}
 use lib.ListN.{getD}
 use borrow.Author.Tests.{not-true, not-false}
-use Rattle.lasso_search.specs.Codes.{markOf}
-use Rattle.lasso_search.proofs.marking.mark_of.Statement.{statement}
-use Rattle.lasso_search.proofs.marking.mark_of.Tie as tie
+use Rattle.lasso_search.specs.Codes.{statusOf}
+use Rattle.lasso_search.proofs.setting.status_of.Statement.{statement}
+use Rattle.lasso_search.proofs.setting.status_of.Tie as tie
 
 div-is-marked : tie.Need-div-is-marked
 div-is-marked c = omega (arith, c .before .before .before .pre .wide)
@@ -18,8 +18,8 @@ is-marked-requires : tie.Need-is-marked-requires
 is-marked-requires c κs = c .before .before .before .pre .first
 
 -- the first is not marked
-unmarked : (q : Bool) {p m : Bool} → m ≡ p → m ≡ false → 1 ≡ markOf (p && not q)
-unmarked q mp mf = λ i. markOf ((sym mf ∙ mp) i && not q)
+unmarked : (q : Bool) {p m : Bool} → m ≡ p → m ≡ false → 1 ≡ statusOf (p && not q)
+unmarked q mp mf = λ i. statusOf ((sym mf ∙ mp) i && not q)
 
 returns : tie.Need-returns
 returns c =
@@ -33,8 +33,8 @@ is-marked-requires-2 : tie.Need-is-marked-requires-2
 is-marked-requires-2 c κs = c .before .before .before .before .before .before .pre .second
 
 -- both marks, from the two tests
-both : (a b : Bool) {p q m w : Bool} → m ≡ p → w ≡ q → m ≡ a → w ≡ b → markOf (a && not b) ≡ markOf (p && not q)
-both a b mp wq ma wb = λ i. markOf ((sym ma ∙ mp) i && not ((sym wb ∙ wq) i))
+both : (a b : Bool) {p q m w : Bool} → m ≡ p → w ≡ q → m ≡ a → w ≡ b → statusOf (a && not b) ≡ statusOf (p && not q)
+both a b mp wq ma wb = λ i. statusOf ((sym ma ∙ mp) i && not ((sym wb ∙ wq) i))
 
 returns-2 : tie.Need-returns-2
 returns-2 c = both true true (c .before .before .before .before .is-marked .ensures) (c .before .is-marked2 .ensures) (not-false _ (c .before .before .before .if1 .left)) (c .if2 .taken)
@@ -42,7 +42,7 @@ returns-2 c = both true true (c .before .before .before .before .is-marked .ensu
 returns-3 : tie.Need-returns-3
 returns-3 c = both true false (c .before .before .before .before .is-marked .ensures) (c .before .is-marked2 .ensures) (not-false _ (c .before .before .before .if1 .left)) (c .if2 .left)
 
-pub mark-of-spec : {M : Type 1} → statement M
-mark-of-spec =
+pub status-of-spec : {M : Type 1} → statement M
+status-of-spec =
     tie.close
     (tie.spec div-is-marked is-marked-requires returns rem-is-marked is-marked-requires-2 returns-2 returns-3)

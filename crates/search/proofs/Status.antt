@@ -1,4 +1,4 @@
--- The marks: what setting one to 0 does to the count of those that are 0, and what the count says. Assumes nothing.
+-- The status of states: what setting one to 0 does to the count of those that are 0, and what the count says. Assumes nothing.
 use mathlib.Core.Path.{_≡_, refl, sym, subst, subst₂}
 use mathlib.Core.List.{List, [], _∷_}
 use Prim.Native.Nat.{ℕ, zero, suc, _+_, _-_, _≤_, _<_}
@@ -18,7 +18,7 @@ pub met-most : (l : List ℕ) → met l ≤ length l
 met-most [] = omega arith
 met-most (c ∷ cs) = let ih = met-most cs in omega arith
 
--- a mark that is not 0 leaves the count below the length
+-- a status that is not 0 leaves the count below the length
 pub met-below : (l : List ℕ) (i : ℕ) → i < length l → 1 ≤ getD l i 0 → met l < length l
 met-below [] i h z = absurd (not-suc-le-zero h)
 met-below (c ∷ cs) zero h z = let ih = met-most cs in omega arith
@@ -50,8 +50,8 @@ one P i m r c to fro rest = by (ℕ-discrete c 0)
     by (yes d) = let e : 1 - c + r ≡ suc r = omega arith in rw e (has (to d) rest)
     by (no d) = let e : 1 - c + r ≡ r = omega arith in rw e (lacks (λ p. d (fro p)) rest)
 
-counts-from : (P : ℕ → Type 0) (marks : List ℕ) (i : ℕ) → ((x : ℕ) → x < length marks → getD marks x 0 ≡ 0 → P (i + x)) → ((x : ℕ) → x < length marks → P (i + x) → getD marks x 0 ≡ 0)
-    → Count P i (length marks) (met marks)
+counts-from : (P : ℕ → Type 0) (status : List ℕ) (i : ℕ) → ((x : ℕ) → x < length status → getD status x 0 ≡ 0 → P (i + x)) → ((x : ℕ) → x < length status → P (i + x) → getD status x 0 ≡ 0)
+    → Count P i (length status) (met status)
 counts-from P [] i to fro = no-more
 counts-from P (c ∷ cs) i to fro =
     one P i (length cs) (met cs) c (λ on. rw (add-zero i) at (to 0 (omega arith) on)) (λ p. fro 0 (omega arith) (rw (add-zero i) p))
@@ -60,8 +60,8 @@ counts-from P (c ∷ cs) i to fro =
     along : (x : ℕ) → i + suc x ≡ suc i + x
     along x = omega arith
 
--- the marks that are 0 count the numbers that have a property, where a mark is 0 just there
-pub counts : (P : ℕ → Type 0) (marks : List ℕ) → ((x : ℕ) → x < length marks → getD marks x 0 ≡ 0 → P x) → ((x : ℕ) → x < length marks → P x → getD marks x 0 ≡ 0) → Counts P (length marks) (met marks)
-counts P marks to fro =
-    subst₂ (Counts P) (zero-add (length marks)) (zero-add (met marks))
-    (join of-none (counts-from P marks 0 (λ x h on. subst P (sym (zero-add x)) (to x h on)) (λ x h p. fro x h (subst P (zero-add x) p))))
+-- the states of status 0 count the numbers that have a property, where it is 0 just there
+pub counts : (P : ℕ → Type 0) (status : List ℕ) → ((x : ℕ) → x < length status → getD status x 0 ≡ 0 → P x) → ((x : ℕ) → x < length status → P x → getD status x 0 ≡ 0) → Counts P (length status) (met status)
+counts P status to fro =
+    subst₂ (Counts P) (zero-add (length status)) (zero-add (met status))
+    (join of-none (counts-from P status 0 (λ x h on. subst P (sym (zero-add x)) (to x h on)) (λ x h p. fro x h (subst P (zero-add x) p))))
