@@ -6,9 +6,9 @@ use native.Mathlib.Omega.{arith}
 use lib.ListN.{length, getD}
 use Rattle.slices.specs.Tables.{rows}
 use Rattle.slices.proofs.Tables.{tab-getD}
-use Rattle.format.specs.Format.{Format, done, byte, printed, Fits, seq, each, literal}
-use Rattle.format.proofs.Sequences.{fits-seq, printed-seq, Split, split, fits-each, printed-each}
-use Rattle.format.proofs.Rows.{rows-singles, Rows, rows-was}
+use Rattle.format.specs.Format.{Format, done, byte, printed, Fits, seq, literal}
+use Rattle.format.proofs.Sequences.{fits-seq, printed-seq, split, fits-each, printed-each}
+use Rattle.format.proofs.Rows.{rows-singles, rows-was}
 
 -- f has no numbers, and its text is x.
 pub record Fixed (f : Format) (x : List ℕ) : Type 0 where

@@ -1,15 +1,15 @@
 -- A format's reader and printer are inverse: what is read is the text of the numbers found, and the text of numbers that fit is
 -- read. Assumes nothing.
 use mathlib.Core.Path.{_≡_, refl, ap, ap₂, sym, subst, _∙_}
-use mathlib.Core.Bool.{Bool, true, false, cond, _&&_}
+use mathlib.Core.Bool.{Bool, true, false, cond}
 use mathlib.Core.List.{List, [], _∷_, _++_}
-use Prim.Native.Nat.{ℕ, zero, suc, _+_, _≤_, _<_}
+use Prim.Native.Nat.{ℕ, suc, _+_, _≤_}
 use native.Mathlib.Omega.{arith}
 use lib.Dec.{eqb, ltb}
 use lib.ListN.{length, getD, length-append}
 use borrow.Author.Tests.{ltb-true, lt-ltb, eqb-true, eq-eqb}
 use Rattle.slices.specs.declared.Part.{Part}
-use Rattle.slices.specs.Refusals.{Result, given, refused}
+use Rattle.slices.specs.Refusals.{Result, given}
 use Rattle.slices.specs.Scans.{outside}
 use Rattle.slices.proofs.Scans.{inside, not-outside}
 use Rattle.slices.proofs.Tests.{and-left, and-right, both}
@@ -19,7 +19,6 @@ use Rattle.numbers.specs.Digits.{digitsOf, field}
 use Rattle.numbers.specs.Numerals.{numberAt}
 use Rattle.numbers.proofs.Canonical.{NumberRead, number-is, number-was}
 use Rattle.numbers.proofs.Standing.{At, at-nil, at-one, at-append, at-left, at-right}
-use Rattle.format.specs.declared.Column.{Column}
 use Rattle.format.specs.Format.{Format, done, byte, num, Found, after, refusedAt, stands, judged, reading, printed, Takes, Fits}
 use Rattle.format.proofs.Results.{never-given, given-was, after-was}
 

@@ -1,17 +1,15 @@
 -- Repetition without a known count, as a loop reads it; and that it is the lines that stand there. Assumes nothing.
-use mathlib.Core.Path.{_≡_, refl, ap, sym, subst, _∙_}
-use mathlib.Core.Bool.{Bool, true, false, not, true≢false}
+use mathlib.Core.Path.{_≡_, ap, sym, subst, _∙_}
+use mathlib.Core.Bool.{true, false, not, true≢false}
 use mathlib.Core.List.{List, [], _∷_, _++_}
-use Prim.Native.Nat.{ℕ, zero, suc, _+_, _≤_, _<_}
+use Prim.Native.Nat.{ℕ, _+_, _≤_, _<_}
 use native.Mathlib.Omega.{arith}
 use native.Mathlib.Decide.{ℕ-discrete}
 use lib.ListN.{length, getD, length-append}
 use Rattle.slices.specs.declared.Part.{Part}
 use Rattle.slices.specs.declared.Refusal.{Refusal}
-use Rattle.slices.specs.Refusals.{Result, given, refused}
-use Rattle.slices.specs.Extremes.{least}
+use Rattle.slices.specs.Refusals.{given, refused}
 use Rattle.slices.proofs.Extremes.{least-is}
-use Rattle.numbers.specs.Digits.{digitsOf}
 use Rattle.numbers.specs.Storing.{Stored}
 use Rattle.numbers.proofs.Stores.{stored-none, stored-then, stored-length}
 use Rattle.format.specs.declared.Column.{Column}

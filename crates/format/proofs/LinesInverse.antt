@@ -1,13 +1,13 @@
 -- Repetition without a known count is inverse to printing: what is read are lines that stand there, and lines that stand there,
 -- where no further one begins, are read. Assumes nothing.
-use mathlib.Core.Path.{_≡_, refl, ap, sym, subst, _∙_}
-use mathlib.Core.Bool.{Bool, true, false, not, true≢false}
+use mathlib.Core.Path.{_≡_, ap, sym, subst, _∙_}
+use mathlib.Core.Bool.{true, false, not, true≢false}
 use mathlib.Core.List.{List, [], _∷_, _++_}
 use Prim.Native.Nat.{ℕ, zero, suc, _+_, _≤_, _<_}
 use native.Mathlib.Omega.{arith}
 use lib.ListN.{length, getD, length-append}
 use Rattle.slices.specs.declared.Part.{Part}
-use Rattle.slices.specs.Refusals.{Result, given}
+use Rattle.slices.specs.Refusals.{given}
 use Rattle.slices.specs.Tables.{rows}
 use Rattle.slices.proofs.Extremes.{least-is}
 use Rattle.numbers.proofs.Standing.{At, row-at, front-at}

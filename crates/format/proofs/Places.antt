@@ -3,7 +3,7 @@
 use mathlib.Core.Path.{_≡_, refl, ap, sym, subst, _∙_}
 use mathlib.Core.Bool.{Bool, true, false, cond}
 use mathlib.Core.List.{List, [], _∷_}
-use Prim.Native.Nat.{ℕ, _+_, _≤_, _<_}
+use Prim.Native.Nat.{ℕ, _+_, _≤_}
 use native.Mathlib.Omega.{arith}
 use lib.ListN.{length}
 use Rattle.slices.specs.declared.Part.{Part}
@@ -12,14 +12,12 @@ use Rattle.slices.specs.Refusals.{Result, given, refused}
 use Rattle.slices.specs.Scans.{outside}
 use Rattle.numbers.specs.declared.Number.{Number}
 use Rattle.numbers.specs.declared.Number.the-variants.{Good, Refused}
-use Rattle.numbers.specs.Digits.{digitsOf}
 use Rattle.numbers.specs.Numerals.{numberAt}
-use Rattle.numbers.proofs.Standing.{At}
 use Rattle.numbers.proofs.Canonical.{NumberRead, number-was, refused-within}
 use Rattle.format.specs.Format.{Format, done, byte, num, Found, after, refusedAt, stands, judged, reading, seq}
 use Rattle.format.proofs.Results.{chain}
 use Rattle.format.proofs.Sequences.{onward, reading-seq}
-use Rattle.format.proofs.Inverse.{standing, Read, reading-was}
+use Rattle.format.proofs.Inverse.{standing, reading-was}
 
 abbrev IsGiven : Result Found → Type 0
 IsGiven (given w) = Unit {0}

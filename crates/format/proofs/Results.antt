@@ -1,6 +1,6 @@
 -- What was read, and reading that goes on after it. Assumes nothing.
 use mathlib.Core.Path.{_≡_, refl, ap, sym, subst}
-use mathlib.Core.List.{List, [], _∷_, _++_, append-assoc}
+use mathlib.Core.List.{List, [], _++_, append-assoc}
 use Prim.Native.Nat.{ℕ}
 use Rattle.slices.specs.declared.Refusal.{Refusal}
 use Rattle.slices.specs.Refusals.{Result, given, refused}
@@ -37,7 +37,3 @@ after-after d e (refused r) = refl
 pub after-was : (d : List ℕ) (r : Result Found) {w : Found} → after d r ≡ given w → (g : Found) × (r ≡ given g) × (w .values ≡ d ++ g .values) × (w .next ≡ g .next)
 after-was d (given g) e = let s = sym (given-was e) in (g, refl, ap (λ (x : Found). x .values) s, ap (λ (x : Found). x .next) s)
 after-was d (refused r) e = absurd (never-given e)
-
-pub chain-was : (r : Result Found) (k : Found → Result Found) {w : Found} → chain r k ≡ given w → (g : Found) × (r ≡ given g) × (k g ≡ given w)
-chain-was (given g) k e = (g, refl, e)
-chain-was (refused r) k e = absurd (never-given e)

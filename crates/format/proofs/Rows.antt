@@ -2,7 +2,7 @@
 use mathlib.Core.Path.{_≡_, refl, ap, sym, subst, _∙_}
 use mathlib.Core.Bool.{Bool, true, false, cond}
 use mathlib.Core.List.{List, [], _∷_, _++_}
-use Prim.Native.Nat.{ℕ, zero, suc, _+_, _≤_, _<_}
+use Prim.Native.Nat.{ℕ, zero, suc, _+_, _<_}
 use native.Mathlib.Omega.{arith}
 use native.Mathlib.Decide.{ℕ-discrete}
 use lib.Dec.{eqb}
@@ -10,10 +10,10 @@ use lib.ListN.{length, getD}
 use borrow.Author.Tests.{eq-eqb, ne-eqb}
 use Rattle.slices.specs.Tables.{tab, rows}
 use Rattle.slices.proofs.Tables.{length-tab, getD-tab, tab-getD, rows-same}
-use Rattle.numbers.specs.Digits.{digitsOf, field}
+use Rattle.numbers.specs.Digits.{field}
 use Rattle.format.specs.declared.Column.{Column}
 use Rattle.format.specs.declared.Row.{Row}
-use Rattle.format.specs.Format.{Format, done, num, printed, Takes, Fits, each}
+use Rattle.format.specs.Format.{Format, printed, Takes, Fits, each}
 use Rattle.format.specs.Rows.{separator, columnOf, cell, row, numbered, line}
 use Rattle.format.proofs.Sequences.{Split, split, fits-each, printed-each}
 

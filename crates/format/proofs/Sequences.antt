@@ -1,13 +1,10 @@
 -- One format after another: reading, printing and fitting go piece by piece. Assumes nothing.
-use mathlib.Core.Path.{_≡_, refl, ap, sym, subst, _∙_}
+use mathlib.Core.Path.{_≡_, refl, ap, sym, _∙_}
 use mathlib.Core.Bool.{Bool, true, false, cond}
 use mathlib.Core.List.{List, [], _∷_, _++_, append-assoc}
 use Prim.Native.Nat.{ℕ, zero, suc, _+_, _<_}
 use native.Mathlib.Omega.{arith}
-use native.Mathlib.Decide.{decLt}
-use lib.ListN.{length}
 use Rattle.slices.specs.declared.Part.{Part}
-use Rattle.slices.specs.declared.Refusal.{Refusal}
 use Rattle.slices.specs.Refusals.{Result, given, refused}
 use Rattle.slices.specs.Scans.{outside}
 use Rattle.slices.specs.Tables.{rows}
@@ -15,8 +12,7 @@ use Rattle.numbers.specs.declared.Number.{Number}
 use Rattle.numbers.specs.declared.Number.the-variants.{Good, Refused}
 use Rattle.numbers.specs.Digits.{digitsOf}
 use Rattle.numbers.specs.Numerals.{numberAt}
-use Rattle.format.specs.declared.Column.{Column}
-use Rattle.format.specs.Format.{Format, done, byte, num, Found, after, refusedAt, stands, judged, reading, printed, Takes, Fits, seq, each}
+use Rattle.format.specs.Format.{Format, done, byte, num, Found, after, refusedAt, stands, judged, reading, printed, Fits, seq, each}
 use Rattle.format.proofs.Results.{chain, after-none, after-after}
 
 module _ (part : Part) (t : List ℕ) where

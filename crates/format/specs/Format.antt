@@ -1,7 +1,7 @@
 -- A format is data: fixed bytes, and numbers each with the byte that ends it, where what follows a number may depend on it.
 -- It is read from left to right, so that what is refused first is refused at the smallest place. Assumes nothing.
 use mathlib.Core.Path.{_≡_}
-use mathlib.Core.Bool.{Bool, true, false, cond, _&&_}
+use mathlib.Core.Bool.{Bool, true, cond, _&&_}
 use mathlib.Core.List.{List, [], _∷_, _++_}
 use Prim.Native.Nat.{ℕ, zero, suc, _+_, _≤_, _<_}
 use lib.Dec.{eqb, ltb}

@@ -1,20 +1,20 @@
 -- Families and numbers: the numbers of a family say that family, and numbers that fit are those of the family that they say. Assumes nothing.
 use mathlib.Core.Path.{_≡_, refl, ap, sym, _∙_}
-use mathlib.Core.List.{List, [], _∷_, _++_}
+use mathlib.Core.List.{List}
 use Prim.Native.Nat.{ℕ, zero, suc, _+_, _*_, _<_}
 use native.Mathlib.Omega.{arith}
 use lib.Dec.{eqb}
 use lib.ListN.{length, getD}
 use Rattle.fdfa.specs.Family.{Fdfa, Agrees}
-use Rattle.slices.specs.Tables.{tab, rows, sum}
+use Rattle.slices.specs.Tables.{rows, sum}
 use Rattle.slices.proofs.Tables.{length-tab, getD-tab, sum-same}
-use Rattle.packed.specs.Layout.{mark, Packable}
+use Rattle.packed.specs.Layout.{Packable}
 use Rattle.packed.proofs.Packing.{mark-byte, mark-says}
 use Rattle.notation.specs.Text.{lettersIn, statesIn, leadingIn, sizeIn, leadingValues, progressValues, frontOf, partsOf}
 use Rattle.notation.specs.Reading.{progressIn, familyOf}
-use Rattle.notation.specs.Values.{Readable, Whole}
+use Rattle.notation.specs.Values.{Whole}
 use Rattle.notation.proofs.Shapes.{even-rows, even-entry, nested-entry, front-was, front-are, parts-are, rows-fit, progress-takes, whole-readable}
-use Rattle.notation.proofs.Texts.{letters-in, states-in, leading-in, size-in, leading-fit, progress-fit}
+use Rattle.notation.proofs.Texts.{letters-in, states-in, leading-in, size-in, progress-fit}
 
 -- from a family to its numbers and back
 module _ (level : ℕ) (small : level < 1000) (F : Fdfa) (P : Packable F) where

@@ -2,7 +2,7 @@
 use mathlib.Core.Path.{_≡_, refl, ap, ap₂, sym, subst, _∙_}
 use mathlib.Core.Bool.{Bool, true, false, cond, true≢false}
 use mathlib.Core.List.{List, [], _∷_, _++_}
-use Prim.Native.Nat.{ℕ, zero, _+_, _<_}
+use Prim.Native.Nat.{ℕ, _+_, _<_}
 use native.Mathlib.Omega.{arith}
 use lib.Dec.{eqb, ltb}
 use lib.ListN.{length, length-append}
@@ -21,7 +21,7 @@ use Rattle.numbers.proofs.Standing.{At, at-append, at-left, at-right, at-self, 
 use Rattle.format.specs.Format.{Found, reading, printed}
 use Rattle.format.proofs.Inverse.{Read, reading-was, reading-is}
 use Rattle.notation.specs.Text.{leadingValues, progressValues, frontFormat, partsFormat, frontOf, partsOf, textFor, textOf}
-use Rattle.notation.specs.Reading.{Numbers, ended, onward, numbersOf, familyOf, bytesIn, faultIn, packFault, bytesOf, readFault}
+use Rattle.notation.specs.Reading.{Numbers, ended, onward, numbersOf, familyOf, bytesIn, faultIn, bytesOf, readFault}
 use Rattle.notation.specs.Values.{Whole}
 use Rattle.notation.proofs.Shapes.{whole-readable}
 use Rattle.notation.proofs.Texts.{front-fits, parts-fit}

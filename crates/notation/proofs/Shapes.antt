@@ -9,19 +9,17 @@ use lib.Dec.{eqb}
 use lib.ListN.{length, getD, length-append}
 use lib.Seq.{ext-getD}
 use borrow.Author.Tests.{ne-eqb}
-use Rattle.slices.specs.Tables.{tab, rows, sum}
+use Rattle.slices.specs.Tables.{rows, sum}
 use Rattle.slices.proofs.Tables.{getD-first, getD-second, getD-rows, rows-same, length-rows, sum-same, sum-even, row-end}
-use Rattle.packed.specs.Layout.{Packable}
 use Rattle.format.specs.declared.Column.{Column}
-use Rattle.format.specs.declared.Row.{Row}
-use Rattle.format.specs.Format.{Format, Takes, Fits, seq, each, literal}
+use Rattle.format.specs.Format.{Takes, Fits, each}
 use Rattle.format.specs.Rows.{separator, columnOf, row, below}
 use Rattle.format.proofs.Sequences.{Split, split}
 use Rattle.format.proofs.Fixed.{Fixed, fixed-literal, fixed-seq, then-was}
 use Rattle.format.proofs.Rows.{Rows, rows-was, RowFits, row-was}
 use Rattle.notation.proofs.Measures.{sum-times}
-use Rattle.notation.specs.Text.{names, countsTitle, leadingTitle, progressTitle, head, countsRow, leadingRow, progressRow, countsFormat, leadingFormat, partFormat, progressFormat, lettersIn, statesIn, leadingIn, sizeIn, frontFormat, partsFormat}
-use Rattle.notation.specs.Reading.{progressIn, familyOf}
+use Rattle.notation.specs.Text.{names, countsTitle, leadingTitle, progressTitle, head, countsRow, leadingRow, progressRow, countsFormat, leadingFormat, partFormat, lettersIn, statesIn, leadingIn, sizeIn, frontFormat, partsFormat}
+use Rattle.notation.specs.Reading.{progressIn}
 use Rattle.notation.specs.Values.{Readable, Whole}
 
 pub fixed-head : (title : List ℕ) (s : ℕ) → Fixed (head title s) ((title ++ names s) ++ (10 ∷ []))

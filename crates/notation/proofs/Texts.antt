@@ -1,24 +1,23 @@
 -- The numbers of a family that has a packed form fit the format, and their text is that of its lines. Assumes nothing.
 use mathlib.Core.Path.{_≡_, refl, ap, ap₂, sym, subst, _∙_}
 use mathlib.Core.Bool.{Bool, true, false, cond}
-use mathlib.Core.List.{List, [], _∷_, _++_, append-assoc}
+use mathlib.Core.List.{List, [], _∷_, _++_}
 use Prim.Native.Nat.{ℕ, zero, suc, _+_, _*_, _≤_, _<_}
 use native.Mathlib.Omega.{arith}
 use lib.Dec.{eqb}
-use lib.ListN.{length, getD, length-append}
+use lib.ListN.{getD}
 use Rattle.fdfa.specs.Family.{Fdfa}
 use Rattle.slices.specs.Scans.{outside}
-use Rattle.slices.specs.Tables.{tab, rows, sum}
+use Rattle.slices.specs.Tables.{tab, rows}
 use Rattle.slices.proofs.Tables.{length-tab, getD-tab, rows-same, getD-second}
 use Rattle.packed.specs.Layout.{mark, Packable}
 use Rattle.format.specs.declared.Column.{Column}
-use Rattle.format.specs.declared.Row.{Row}
-use Rattle.format.specs.Format.{Format, printed, Takes, Fits, seq, each}
+use Rattle.format.specs.Format.{Format, printed, Takes, Fits, each}
 use Rattle.format.specs.Rows.{separator, columnOf, row, line}
 use Rattle.format.proofs.Sequences.{fits-seq, printed-seq, fits-each, printed-each}
 use Rattle.format.proofs.Fixed.{fixed-literal, then-fits, then-text}
 use Rattle.format.proofs.Rows.{RowFits, row-is, printed-row}
-use Rattle.notation.specs.Text.{names, countsTitle, leadingTitle, progressTitle, countsRow, leadingRow, progressRow, countsFormat, leadingFormat, partFormat, progressFormat, lettersIn, statesIn, leadingIn, sizeIn, frontFormat, partsFormat, leadingValues, progressValues, frontOf, partsOf, textFor}
+use Rattle.notation.specs.Text.{countsTitle, leadingTitle, progressTitle, countsRow, leadingRow, progressRow, countsFormat, leadingFormat, partFormat, progressFormat, lettersIn, statesIn, leadingIn, sizeIn, frontFormat, partsFormat, leadingValues, progressValues, frontOf, partsOf, textFor}
 use Rattle.notation.specs.Lines.{headText, countsText, leadingText, partText, progressText, linesOf}
 use Rattle.notation.proofs.Shapes.{fixed-head, leading-column, progress-column, even-entry}
 

@@ -1,14 +1,14 @@
 -- Reading a text from left to right, for any bytes: what is refused first is refused at the smallest place. Assumes nothing.
 use mathlib.Core.Bool.{cond}
 use mathlib.Core.List.{List, []}
-use Prim.Native.Nat.{ℕ, _+_, _*_, _<_}
+use Prim.Native.Nat.{ℕ, _+_, _*_}
 use lib.Dec.{eqb, ltb}
 use lib.ListN.{length, getD}
 use Rattle.slices.specs.declared.Part.the-variants.{First, Out}
 use Rattle.slices.specs.Refusals.{Fault, sound, fault, _then_, when, Result, given, refused}
 use Rattle.slices.specs.Tables.{sum}
 use Rattle.fdfa.specs.Family.{Fdfa}
-use Rattle.packed.specs.Layout.{pack, Packable}
+use Rattle.packed.specs.Layout.{pack}
 use Rattle.format.specs.Format.{Found, reading}
 use Rattle.notation.specs.Text.{lettersIn, statesIn, leadingIn, sizeIn, frontFormat, partsFormat}
 

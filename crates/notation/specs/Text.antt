@@ -2,7 +2,7 @@
 -- reading and writing. Assumes nothing.
 use mathlib.Core.List.{List, [], _∷_, _++_}
 use Prim.Native.Nat.{ℕ, _+_, _*_}
-use lib.ListN.{length, getD}
+use lib.ListN.{getD}
 use Rattle.fdfa.specs.Family.{Fdfa}
 use Rattle.slices.specs.Tables.{tab, rows}
 use Rattle.packed.specs.Layout.{decode, mark}

@@ -83,20 +83,7 @@ at-self t = record { within = omega arith; same = λ i l. ap (λ (k : ℕ). getD
     plus-zero : (i : ℕ) → 0 + i ≡ i
     plus-zero i = omega arith
 
--- rows that stand one after the other
-pub at-rows : (t : List ℕ) (m : ℕ) (f : ℕ → List ℕ) (place : ℕ → ℕ) → place 0 ≤ length t
-    → ((i : ℕ) → i < m → At t (place i) (f i)) → ((i : ℕ) → i < m → place (suc i) ≡ place i + length (f i))
-    → At t (place 0) (rows m f) × (place m ≡ place 0 + length (rows m f))
-unfolding rows
-at-rows t zero f place h a n = (at-nil t (place 0) h, omega arith)
-at-rows t (suc m) f place h a n = by (at-rows t m f place h (λ i l. a i (omega arith)) (λ i l. n i (omega arith)))
-  where
-    by : At t (place 0) (rows m f) × (place m ≡ place 0 + length (rows m f)) → At t (place 0) (rows m f ++ f m) × (place (suc m) ≡ place 0 + length (rows m f ++ f m))
-    by w = (
-      at-append t (place 0) (rows m f) (f m) (w .0) (subst (λ (k : ℕ). At t k (f m)) (w .1) (a m (omega arith))),
-      n m (omega arith) ∙ omega (arith, w .1, length-append (rows m f) (f m)),
-    )
-
+-- rows that stand one after the other: one of them
 pub row-at : (t : List ℕ) (p m : ℕ) (f : ℕ → List ℕ) → At t p (rows m f) → (i : ℕ) → i < m → At t (p + length (rows i f)) (f i)
 unfolding rows
 row-at t p zero f a i h = absurd (omega arith)

@@ -1,5 +1,5 @@
 -- `format::labelled::read_line` meets its contract. Assumes nothing.
-use mathlib.Core.Path.{_≡_, sym, _∙_}
+use mathlib.Core.Path.{sym, _∙_}
 use denote.Ref.{now}
 use Rattle.format.specs.Rows.{cell}
 use Rattle.format.specs.Lines.{labelled}

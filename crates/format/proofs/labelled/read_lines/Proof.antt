@@ -1,13 +1,12 @@
 -- `format::labelled::read_lines` meets its contract. Assumes nothing.
-use mathlib.Core.Path.{_≡_, refl, ap, sym, subst, _∙_}
-use mathlib.Core.List.{List, [], _∷_}
-use Prim.Native.Nat.{ℕ, _-_, _<_}
+use mathlib.Core.Path.{_≡_, refl, ap, sym, _∙_}
+use mathlib.Core.List.{[], _∷_}
+use Prim.Native.Nat.{_-_}
 use native.Mathlib.Omega.{arith}
 use denote.Ref.{now}
 use lib.ListN.{length, getD}
-use Rattle.numbers.specs.Storing.{Stored}
 use Rattle.numbers.proofs.Stores.{stored-length, stored-as}
-use Rattle.format.specs.Format.{stands, reading}
+use Rattle.format.specs.Format.{stands}
 use Rattle.format.specs.Lines.{labelled}
 use Rattle.format.specs.Steps.{cellSays}
 use Rattle.format.proofs.Lined.{Lined, lined-none, line-takes, lined-more, lined-all, lined-refused}

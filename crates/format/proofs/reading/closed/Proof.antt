@@ -1,5 +1,5 @@
 -- `format::reading::closed` meets its contract. Assumes nothing.
-use mathlib.Core.Path.{_≡_, ap, sym, _∙_}
+use mathlib.Core.Path.{ap, sym, _∙_}
 use mathlib.Core.List.{_∷_, []}
 use denote.Ref.{now}
 use Rattle.format.specs.Format.{done, byte, after, reading}
