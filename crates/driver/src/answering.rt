@@ -1,20 +1,11 @@
-// The calls that lines make. A new call has a form and an arm here, and a function in the file of its subject in `calls`.
-use calls::operations;
-use calls::searches;
-use calls::sheet;
-use calls::text;
-use calls::walking;
+// Lines and the lines that answer them.
+use calls::dispatch::call_of;
+use calls::dispatch::form;
+use calls::dispatch::make;
 use forms::arguments::Given;
-use forms::arguments::input;
 use forms::arguments::read_all;
 use forms::lent::put_all_lent;
-use forms::replies::REFUSED;
-use forms::replies::Reply;
 use forms::replies::put_reply;
-use forms::replies::say;
-use forms::table::Form;
-use forms::table::find;
-use forms::table::form_of;
 use lines::parts::between;
 use lines::parts::cells_mut;
 use lines::parts::front_mut;
@@ -23,41 +14,6 @@ use lines::printing::put;
 use lines::printing::put_text;
 use lines::words::Word;
 use lines::words::until;
-
-const FORMS: [u8; 167] =
-    *b"check i|verdict i i i|complement i x|intersection i i x|union i i x|compare i i x y w|emptiness i x y w|start i|step p n i i|rest p n i i|number i n|read i x|write i x";
-
-// The call that a line makes.
-fn call_of(line: &[u8]) -> Word {
-    find(&FORMS, line)
-}
-
-fn form(call: usize) -> Form {
-    form_of(&FORMS, call)
-}
-
-// Makes the call with this number.
-fn make(call: usize, g: Given, inputs: &[u8], x: &mut [u8], y: &mut [u8], w: &mut [u64]) -> Reply {
-    let a = input(inputs, g, 0);
-    let b = input(inputs, g, 1);
-    let c = input(inputs, g, 2);
-    match call {
-        0 => sheet::check(a),
-        1 => sheet::verdict(a, b, c),
-        2 => operations::complement(a, x),
-        3 => operations::intersection(a, b, x),
-        4 => operations::union(a, b, x),
-        5 => searches::compare(a, b, x, y, w),
-        6 => searches::emptiness(a, x, y, w),
-        7 => walking::start(a),
-        8 => walking::step(g.p, g.n, a, b),
-        9 => walking::rest(g.p, g.n, a, b, x),
-        10 => text::number(a, g.n),
-        11 => text::read(a, x),
-        12 => text::write(a, x),
-        _ => say(REFUSED),
-    }
-}
 
 // Makes a call and prints what it answers, then what is lent.
 fn perform(

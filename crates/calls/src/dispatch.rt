@@ -1,0 +1,57 @@
+// The table of the calls. A new call has a form and an arm here, and a function in the file of its subject.
+use crate::operations;
+use crate::searches;
+use crate::sheet;
+use crate::text;
+use crate::walking;
+use forms::arguments::Given;
+use forms::arguments::input;
+use forms::replies::REFUSED;
+use forms::replies::Reply;
+use forms::replies::say;
+use forms::table::Form;
+use forms::table::find;
+use forms::table::form_of;
+use lines::words::Word;
+
+const FORMS: [u8; 167] =
+    *b"check i|verdict i i i|complement i x|intersection i i x|union i i x|compare i i x y w|emptiness i x y w|start i|step p n i i|rest p n i i|number i n|read i x|write i x";
+
+// The call that a line makes.
+pub fn call_of(line: &[u8]) -> Word {
+    find(&FORMS, line)
+}
+
+pub fn form(call: usize) -> Form {
+    form_of(&FORMS, call)
+}
+
+// Makes the call with this number; the last arm is for a number that no form has.
+pub fn make(
+    call: usize,
+    g: Given,
+    inputs: &[u8],
+    x: &mut [u8],
+    y: &mut [u8],
+    w: &mut [u64],
+) -> Reply {
+    let a = input(inputs, g, 0);
+    let b = input(inputs, g, 1);
+    let c = input(inputs, g, 2);
+    match call {
+        0 => sheet::check(a),
+        1 => sheet::verdict(a, b, c),
+        2 => operations::complement(a, x),
+        3 => operations::intersection(a, b, x),
+        4 => operations::union(a, b, x),
+        5 => searches::compare(a, b, x, y, w),
+        6 => searches::emptiness(a, x, y, w),
+        7 => walking::start(a),
+        8 => walking::step(g.p, g.n, a, b),
+        9 => walking::rest(g.p, g.n, a, b, x),
+        10 => text::number(a, g.n),
+        11 => text::read(a, x),
+        12 => text::write(a, x),
+        _ => say(REFUSED),
+    }
+}
