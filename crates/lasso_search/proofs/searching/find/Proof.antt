@@ -3,15 +3,13 @@ use mathlib.Core.Path.{_≡_, refl, ap, sym, subst, subst₂, _∙_}
 use mathlib.Core.List.{List, _++_}
 use Prim.Native.Nat.{ℕ, _+_, _*_, _-_, _≤_, _<_}
 use native.Mathlib.Omega.{arith}
-use native.Mathlib.Nat.{mul-le-mul-right, one-mul}
 use borrow.Author.Needs.{needs}
 use denote.Ref.{now}
 use lib.ListN.{length, take, drop}
-use lib.Seq.{length-take-le, take-append-le, take-at, length-front}
+use lib.Seq.{length-take-le, take-at, length-front}
 use Rattle.fdfa.specs.Family.{Fdfa}
 use Rattle.pairing.specs.declared.Beside.{Beside}
-use Rattle.pairing.specs.Pairs.{nextPair, Steps}
-use Rattle.pairing.proofs.Within.{lead-steps}
+use Rattle.pairing.proofs.Within.{few-pairs}
 use Rattle.search.specs.declared.Expansion.{Expansion}
 use Rattle.search.specs.declared.Expansion.the-variants.{Ending}
 use Rattle.search.specs.Search.{joint, Ready, Search, Expanded}
@@ -20,9 +18,9 @@ use Rattle.lasso_search.specs.declared.Candidate.{Candidate}
 use Rattle.lasso_search.specs.declared.Codes.{Codes}
 use Rattle.lasso_search.specs.declared.Codes.the-variants.{Absent}
 use Rattle.lasso_search.specs.Lassos.{difference}
-use Rattle.lasso_search.specs.Codes.{Tabulated, Leads, Room, Round, Next, CanFind, Located}
+use Rattle.lasso_search.specs.Codes.{Room, Round, Next, CanFind, Located}
 use Rattle.lasso_search.proofs.Joined.{aimAt}
-use Rattle.lasso_search.proofs.Difference.{complete, lead-step, tabulated}
+use Rattle.lasso_search.proofs.Difference.{complete}
 use Rattle.lasso_search.proofs.Lassos.{none-accepted}
 use Rattle.lasso_search.proofs.Rounds.{tail-is, tail-long, returned-front, returned-long, returned-tail, round-none}
 use Rattle.lasso_search.proofs.Candidates.{room-as, Standing, front-in, aim, all-room, begins, exhausts, finds}
@@ -82,94 +80,27 @@ module _ (s : tie.Start Inv-loop μ-loop Inv-search μ-search) where
   letters : s .args .t .letters ≡ P .letters
   letters = ap (λ (t : Beside). t .letters) (can .tables)
 
-  some : 0 < n
-  some = omega (arith, complete (can .alike) .start, can .room .all)
-
-  steps : Steps b d (s .args .t) n
-  steps = subst₂ (λ (t : Beside) (m : ℕ). Steps b d t m) (sym (can .tables)) (sym (can .room .all)) (lead-steps (can .alike))
-
-  work-room : n < length (now (s .args .work))
-  work-room =
-      let k : 1 ≤ P .size 0 = complete (can .alike) .starts 0 (omega (arith, some, can .room .all)) in
-      omega (arith, can .room .cells-fit 0 some, mul-le-mul-right n k, one-mul n, some)
-
--- the table of the leading states
-module _ (c : tie.After-tabulate Inv-loop μ-loop Inv-search μ-search) where
-  abbrev begun : tie.Start Inv-loop μ-loop Inv-search μ-search
-  begun = c .before .before .before .before .before .before .before .before
+-- what the search starts with
+module _ (r : tie.After-start Inv-loop μ-loop Inv-search μ-search) where
+  abbrev S : tie.Start Inv-loop μ-loop Inv-search μ-search
+  S = r .before .before .before .before .before .before .before .before .before .before
 
   abbrev leads : List ℕ
-  leads = c .tabulate .last .1 .1 .1 .1 .0
+  leads = r .start .last .1 .1 .1 .1 .0
 
-  leads-table : Tabulated leads (n begun) (begun .args .t .letters) (P begun .step)
-  leads-table =
-      let s = begun in
-      let e : nextPair (b s) (d s) (s .args .t) ≡ P s .step = ap (nextPair (b s) (d s)) (can s .tables) ∙ lead-step (can s .alike) in
-      subst (Tabulated leads (n s) (s .args .t .letters)) e (tabulated _ (steps s) (can s .leads-fit) (c .tabulate .ensures))
+  room₁ : Room (P S) (n S) (length (now (S .args .rows))) (length (r .start .last .1 .1 .1 .1 .1 .0)) (length (r .start .last .1 .1 .1 .1 .1 .1 .0) - front S)
+  room₁ = room-as (can S .room) refl (r .start .kept .1 .1 .1 .1 .1 .0) (ap (λ (l : ℕ). l - front S) (r .start .kept .1 .1 .1 .1 .1 .1 .0))
 
 sub-front : tie.Need-sub-front Inv-loop μ-loop Inv-search μ-search
-sub-front c = some (c .before .before .before .before .before .before)
+sub-front c = let K = can (c .before .before .before .before .before .before) in omega (arith, complete (K .alike) .start, K .room .all)
 
-tabulate-requires : tie.Need-tabulate-requires Inv-loop μ-loop Inv-search μ-search
-tabulate-requires c κs = let s = c .before .before .before .before .before .before .before in (steps s, can s .leads-fit)
-
-slice-relend-prefix-reach : tie.Need-slice-relend-prefix-reach Inv-loop μ-loop Inv-search μ-search
-slice-relend-prefix-reach c = can (begun (c .before .before .before)) .room .leads
-
-slice-aggregate-reach : tie.Need-slice-aggregate-reach Inv-loop μ-loop Inv-search μ-search
-slice-aggregate-reach c = sym (length-take-le _ _ (can (begun (c .before .before .before .before)) .room .leads))
-
-slice-relend-prefix-reach-2 : tie.Need-slice-relend-prefix-reach-2 Inv-loop μ-loop Inv-search μ-search
-slice-relend-prefix-reach-2 c = omega (arith, work-room (begun (c .before .before .before .before)))
-
-slice-aggregate-reach-2 : tie.Need-slice-aggregate-reach-2 Inv-loop μ-loop Inv-search μ-search
-slice-aggregate-reach-2 c = sym (length-take-le _ _ (omega (arith, work-room (begun (c .before .before .before .before .before)))))
-
-reach-requires : tie.Need-reach-requires Inv-loop μ-loop Inv-search μ-search
-reach-requires c κs =
-    let t = c .before .before .before .before .before in
-    let s = begun t in
-    ((P s .step, leads-table t), some s, length-take-le _ _ (can s .room .leads), length-take-le _ _ (omega (arith, work-room s)))
-
--- the leading states reached
-module _ (r : tie.After-reach Inv-loop μ-loop Inv-search μ-search) where
-  abbrev made : tie.After-tabulate Inv-loop μ-loop Inv-search μ-search
-  made = r .before .before .before .before .before .before
-
-  abbrev S : tie.Start Inv-loop μ-loop Inv-search μ-search
-  S = begun made
-
-  abbrev status₁ : List ℕ
-  status₁ = r .reach .last .1 .1 .1 .0 ++ drop (n S) (now (S .args .status))
-
-  abbrev work₁ : List ℕ
-  work₁ = r .reach .last .1 .1 .1 .1 .0 ++ drop (n S) (now (S .args .work))
-
-  status₁-same : length status₁ ≡ length (now (S .args .status))
-  status₁-same = length-front (now (S .args .status)) (r .reach .last .1 .1 .1 .0) (n S) (r .reach .kept .1 .1 .1 .0)
-
-  work₁-same : length work₁ ≡ length (now (S .args .work))
-  work₁-same = length-front (now (S .args .work)) (r .reach .last .1 .1 .1 .1 .0) (n S) (r .reach .kept .1 .1 .1 .1 .0)
-
-  room₁ : Room (P S) (n S) (length (now (S .args .rows))) (length status₁) (length work₁ - front S)
-  room₁ = room-as (can S .room) refl status₁-same (ap (λ (l : ℕ). l - front S) work₁-same)
-
-  round₁ : Round (P S) (take (front S) work₁) (r .reach .result) 0
-  round₁ =
-      let ys = r .reach .last .1 .1 .1 .1 .0 in
-      let l : length ys ≡ n S = r .reach .kept .1 .1 .1 .1 .0 ∙ length-take-le (n S) (now (S .args .work)) (omega (arith, work-room S)) in
-      let f : take (front S) work₁ ≡ take (front S) ys = take-append-le (front S) ys _ (omega arith) in
-      record {
-        leads = subst₂ (λ (k t : ℕ). Leads (P S .step) t k (take (front S) work₁) (r .reach .result)) (can S .room .all) (letters S)
-            (subst (λ (x : List ℕ). Leads (P S .step) (S .args .t .letters) (n S) x (r .reach .result)) (sym f) (r .reach .ensures (P S .step) (leads-table made)));
-        upto = omega arith;
-        none = λ j h. absurd (omega arith);
-      }
+start-requires : tie.Need-start-requires Inv-loop μ-loop Inv-search μ-search
+start-requires c κs = let s = c .before .before .before .before .before .before .before .before .before in (length (now (s .args .rows)), can s)
 
 next-candidate-requires : tie.Need-next-candidate-requires Inv-loop μ-loop Inv-search μ-search
 next-candidate-requires c κs =
-    let r = c .before .before .before .before .before .before .before in
-    ((can (S r) .alike, can (S r) .tables), (room₁ r, round₁ r))
+    let r = c .before .before .before .before .before .before .before .before .before in
+    ((can (S r) .alike, can (S r) .tables), (room₁ r, r .start .ensures .round))
 
 -- what stands for a candidate that was found, whatever code the search for it began at
 again : {P : Fdfa} {n reached from : ℕ} {rows status before work : List ℕ} {c : Candidate} → Next P n reached from rows status before work c → Next P n reached 0 rows status work work c
@@ -185,26 +116,26 @@ module _ (c : tie.At-search Inv-loop μ-loop Inv-search μ-search) where
   abbrev p : tie.After-next-candidate Inv-loop μ-loop Inv-search μ-search
   p = c .before .before .before .before .before .before .before
 
-  abbrev r : tie.After-reach Inv-loop μ-loop Inv-search μ-search
-  r = p .before .before .before .before .before .before .before .before
+  abbrev r : tie.After-start Inv-loop μ-loop Inv-search μ-search
+  r = p .before .before .before .before .before .before .before .before .before .before
 
   abbrev reached : ℕ
-  reached = r .reach .result
+  reached = r .start .result
 
   rows-long : length (c .search .rows) ≡ length (now (S r .args .rows))
   rows-long = c .search .inv .rows-same ∙ p .next-candidate .kept .1 .1 .1 .1 .1 .1 .0
 
   status-long : length (c .search .status) ≡ length (now (S r .args .status))
-  status-long = c .search .inv .status-same ∙ (p .next-candidate .kept .1 .1 .1 .1 .1 .1 .1 .0 ∙ status₁-same r)
+  status-long = c .search .inv .status-same ∙ (p .next-candidate .kept .1 .1 .1 .1 .1 .1 .1 .0 ∙ r .start .kept .1 .1 .1 .1 .1 .0)
 
   work-long : length (c .search .work) ≡ length (now (S r .args .work))
-  work-long = c .search .inv .work-same ∙ (p .next-candidate .kept .1 .1 .1 .1 .1 .1 .1 .1 .0 ∙ work₁-same r)
+  work-long = c .search .inv .work-same ∙ (p .next-candidate .kept .1 .1 .1 .1 .1 .1 .1 .1 .0 ∙ r .start .kept .1 .1 .1 .1 .1 .1 .0)
 
-  standing : Standing (P (S r)) (n (S r)) (S r .args .t .letters) reached (leads (made r)) (c .search .rows) (c .search .status) (c .search .work) (c .search .c)
+  standing : Standing (P (S r)) (n (S r)) (S r .args .t .letters) reached (leads r) (c .search .rows) (c .search .status) (c .search .work) (c .search .c)
   standing = record {
     complete = complete (can (S r) .alike);
     letters = letters (S r);
-    table = leads-table (made r);
+    table = r .start .ensures .table;
     room = room-as (can (S r) .room) rows-long status-long (ap (λ (l : ℕ). l - front (S r)) work-long);
     next = c .search .inv .next;
   }
@@ -316,16 +247,16 @@ module _ (x : tie.After-expand Inv-loop μ-loop Inv-search μ-search) where
   abbrev q : ℕ
   q = o l .search .c .state
 
-  expanded : {y : Expansion} → x .expand .result ≡ y → Expanded (joint (leads (made (r (o l)))) (o l .search .rows) (n (T l)) (T l .args .t .letters) q (aim (standing (o l)) (here l) (n (T l)))) ms zs (l .loop .h) y
+  expanded : {y : Expansion} → x .expand .result ≡ y → Expanded (joint (leads (r (o l))) (o l .search .rows) (n (T l)) (T l .args .t .letters) q (aim (standing (o l)) (here l) (n (T l)))) ms zs (l .loop .h) y
   expanded e =
-      subst (Expanded (joint (leads (made (r (o l)))) (o l .search .rows) (n (T l)) (T l .args .t .letters) q (aim (standing (o l)) (here l) (n (T l)))) ms zs (l .loop .h)) e
+      subst (Expanded (joint (leads (r (o l))) (o l .search .rows) (n (T l)) (T l .args .t .letters) q (aim (standing (o l)) (here l) (n (T l)))) ms zs (l .loop .h)) e
       (x .expand .ensures (aim (standing (o l)) (here l) (n (T l))) (l .loop .inv .ready))
 
-  ready₂ : {total : ℕ} → Search (joint (leads (made (r (o l)))) (o l .search .rows) (n (T l)) (T l .args .t .letters) q (aim (standing (o l)) (here l) (n (T l)))) ms zs total (l .loop .h + 1) 0
-      → Ready (leads (made (r (o l)))) (o l .search .rows) (n (T l)) (T l .args .t .letters) q (take (all l) status₂) (take (length work₂ - front (T l)) (drop (front (T l)) work₂)) total (l .loop .h + 1) (aim (standing (o l)) (here l) (n (T l)))
+  ready₂ : {total : ℕ} → Search (joint (leads (r (o l))) (o l .search .rows) (n (T l)) (T l .args .t .letters) q (aim (standing (o l)) (here l) (n (T l)))) ms zs total (l .loop .h + 1) 0
+      → Ready (leads (r (o l))) (o l .search .rows) (n (T l)) (T l .args .t .letters) q (take (all l) status₂) (take (length work₂ - front (T l)) (drop (front (T l)) work₂)) total (l .loop .h + 1) (aim (standing (o l)) (here l) (n (T l)))
   ready₂ {total} found =
       let R = l .loop .inv .ready in
-      subst₂ (λ (y z : List ℕ). Ready (leads (made (r (o l)))) (o l .search .rows) (n (T l)) (T l .args .t .letters) q y z total (l .loop .h + 1) (aim (standing (o l)) (here l) (n (T l)))) (sym status-back) (sym cells-back)
+      subst₂ (λ (y z : List ℕ). Ready (leads (r (o l))) (o l .search .rows) (n (T l)) (T l .args .t .letters) q y z total (l .loop .h + 1) (aim (standing (o l)) (here l) (n (T l)))) (sym status-back) (sym cells-back)
       (record { tables = R .tables; bounded = R .bounded; leading = R .leading; search = found })
 
 abbrev of-on : tie.After-known-told2 Inv-loop μ-loop Inv-search μ-search → tie.After-expand Inv-loop μ-loop Inv-search μ-search
@@ -350,7 +281,7 @@ add-next-candidate : tie.Need-add-next-candidate Inv-loop μ-loop Inv-search μ-
 add-next-candidate c =
     let y = c .before .before in
     let F = standing (o y) in
-    omega (arith, here y, F .next .round .leads .most, F .room .all, steps (T y) .few)
+    omega (arith, here y, F .next .round .leads .most, F .room .all, few-pairs (can (T y) .alike))
 
 next-candidate-requires-2 : tie.Need-next-candidate-requires-2 Inv-loop μ-loop Inv-search μ-search
 next-candidate-requires-2 c κs =
@@ -387,7 +318,7 @@ search-again c =
     }
 
 same-length : tie.Need-same-length Inv-loop μ-loop Inv-search μ-search
-same-length c = made (r (c .before .before)) .tabulate .kept .1 .1 .1 .1 .0
+same-length c = r (c .before .before) .start .kept .1 .1 .1 .1 .0
 
 same-length-2 : tie.Need-same-length-2 Inv-loop μ-loop Inv-search μ-search
 same-length-2 c = rows-long (c .before .before)
@@ -409,7 +340,7 @@ abbrev of-ending : tie.After-known-told Inv-loop μ-loop Inv-search μ-search �
 of-ending c = c .before .before .before .before .before .before .before
 
 same-length-5 : tie.Need-same-length-5 Inv-loop μ-loop Inv-search μ-search
-same-length-5 c = made (r (o (l (of-ending c)))) .tabulate .kept .1 .1 .1 .1 .0
+same-length-5 c = r (o (l (of-ending c))) .start .kept .1 .1 .1 .1 .0
 
 same-length-6 : tie.Need-same-length-6 Inv-loop μ-loop Inv-search μ-search
 same-length-6 c = rows-long (o (l (of-ending c)))
@@ -427,7 +358,7 @@ returns-2 c =
     let y = l x in
     let fits : front (T y) ≤ length (work₂ x) = omega (arith, turn-front y, work₂-long x) in
     finds (standing (o y)) (here y) (kept₂ x) fits
-    (subst (λ (w : List ℕ). Expanded (joint (leads (made (r (o y)))) (o y .search .rows) (n (T y)) (T y .args .t .letters) (q x) (aim (standing (o y)) (here y) (n (T y)))) (ms x) w (y .loop .h) (Ending (c .before .step .given .0 .0)))
+    (subst (λ (w : List ℕ). Expanded (joint (leads (r (o y))) (o y .search .rows) (n (T y)) (T y .args .t .letters) (q x) (aim (standing (o y)) (here y) (n (T y)))) (ms x) w (y .loop .h) (Ending (c .before .step .given .0 .0)))
     (sym (cells-back x) ∙ tail-is (front (T y)) (work₂ x) fits) (expanded x (c .before .step .given .1)))
 
 pub find-spec : {M : Type 1} → statement M
@@ -439,12 +370,7 @@ find-spec =
     Inv-search
     μ-search
     sub-front
-    tabulate-requires
-    slice-relend-prefix-reach
-    slice-aggregate-reach
-    slice-relend-prefix-reach-2
-    slice-aggregate-reach-2
-    reach-requires
+    start-requires
     next-candidate-requires
     search-holds
     mul-all
