@@ -127,6 +127,11 @@ pub record CanFind (b c : List ℕ) (t : Beside) (n leads rows status work : ℕ
   pub leads-fit : n * t .letters ≤ leads
   pub room : Room (difference b c) n rows status (work - (n - 1))
 
+-- The table of the leading states is made, and those reached have their codes.
+pub record Started (P : Fdfa) (n s : ℕ) (leads work : List ℕ) (reached : ℕ) : Type 0 where
+  pub table : Tabulated leads n s (P .step)
+  pub round : Round P (take (n - 1) work) reached 0
+
 -- R, and none or the first accepted and normalized lasso, by its codes.
 abbrev pub Located : Fdfa → List ℕ → Codes → Type 0
 Located P work (Absent r) = Counts (Reached (P .letters) (P .step)) (P .states) r × ((u v : List ℕ) → Accepted P u v → ⊥)

@@ -12,7 +12,7 @@ ghost use lib.ListN.{length, take};
 ghost use Rattle.search.specs.Words.{Word, ε, run, Over};
 ghost use Rattle.pairing.specs.Pairs.{Alike, leadsOf, sizesOf};
 ghost use Rattle.lasso_search.specs.Lassos.{difference};
-ghost use Rattle.lasso_search.specs.Codes.{Tabulated, Fresh, Leads, Room, Round, Prepared, Next, CanFind, Located};
+ghost use Rattle.lasso_search.specs.Codes.{Tabulated, Fresh, Leads, Room, Round, Prepared, Next, CanFind, Started, Located};
 
 // Searches the leading states alone, the progress standing still; the number of those reached.
 fn reach(leads: &[u16], n: usize, letters: usize, status: &mut [u8], cells: &mut [u64]) -> usize
@@ -114,6 +114,23 @@ fn next_candidate(
     }
 }
 
+// The table of the leading states and, in the first cells, the codes of those reached; their number.
+fn start(
+    first: &[u8],
+    second: &[u8],
+    t: Beside,
+    n: usize,
+    leads: &mut [u16],
+    status: &mut [u8],
+    work: &mut [u64],
+) -> usize
+    requires { ⌜ ((rows : ℕ) × CanFind (now first) (now second) t n (length (now leads)) rows (length (now status)) (length (now work))) ⌝ }
+    ensures { λ r. ⌜ Started (difference (now (first .entry)) (now (second .entry))) n (t .letters) (now (leads .exit)) (now (work .exit)) r ⌝ }
+{
+    pairing::tabulate(first, second, t, n, leads);
+    reach(leads, n, t.letters, &mut status[..n], &mut work[..n])
+}
+
 // The first lasso, by the codes that the cells have for it: the pairs of leading states in the order of their first prefixes, and for
 // each the combinations in the order of their first periods. What is made for a pair stands in a function of its own that is called
 // twice, so that it takes no registers from the inner loop.
@@ -131,8 +148,7 @@ fn find(
     ensures { λ r. ⌜ Located (difference (now (first .entry)) (now (second .entry))) (now (work .exit)) r ⌝ }
 {
     let front = n - 1;
-    pairing::tabulate(first, second, t, n, leads);
-    let reached = reach(leads, n, t.letters, &mut status[..n], &mut work[..n]);
+    let reached = start(first, second, t, n, leads, status, work);
     let mut out = Codes::Absent(reached);
     let mut c = next_candidate(first, second, t, n, reached, 0, rows, status, work);
     'search: while c.code < reached {

@@ -1,31 +1,26 @@
 -- `lasso_search::searching::find` meets its contract: candidate after candidate, and for each code after code. Assumes nothing.
-use mathlib.Core.Path.{_≡_, refl, ap, sym, subst, subst₂, _∙_}
-use mathlib.Core.List.{List, _++_}
-use Prim.Native.Nat.{ℕ, _+_, _*_, _-_, _≤_, _<_}
+use mathlib.Core.Path.{_≡_, refl, ap, sym, subst, _∙_}
+use mathlib.Core.List.{List}
+use Prim.Native.Nat.{ℕ, _*_, _-_, _<_}
 use native.Mathlib.Omega.{arith}
-use native.Mathlib.Nat.{mul-le-mul-right, one-mul}
 use borrow.Author.Needs.{needs}
 use denote.Ref.{now}
 use lib.ListN.{length, take, drop}
-use lib.Seq.{length-take-le, take-append-le, take-at, length-front}
+use lib.Seq.{length-take-le}
 use Rattle.fdfa.specs.Family.{Fdfa}
 use Rattle.pairing.specs.declared.Beside.{Beside}
-use Rattle.pairing.specs.Pairs.{nextPair, Steps}
-use Rattle.pairing.proofs.Within.{lead-steps}
+use Rattle.pairing.proofs.Within.{few-pairs}
 use Rattle.search.specs.declared.Expansion.{Expansion}
-use Rattle.search.specs.declared.Expansion.the-variants.{Ending}
-use Rattle.search.specs.Search.{joint, Ready, Search, Expanded}
-use Rattle.search.proofs.Outcomes.{codes-few}
+use Rattle.search.specs.Search.{joint, Expanded}
 use Rattle.lasso_search.specs.declared.Candidate.{Candidate}
 use Rattle.lasso_search.specs.declared.Codes.{Codes}
 use Rattle.lasso_search.specs.declared.Codes.the-variants.{Absent}
 use Rattle.lasso_search.specs.Lassos.{difference}
-use Rattle.lasso_search.specs.Codes.{Tabulated, Leads, Room, Round, Next, CanFind, Located}
-use Rattle.lasso_search.proofs.Joined.{aimAt}
-use Rattle.lasso_search.proofs.Difference.{complete, lead-step, tabulated}
+use Rattle.lasso_search.specs.Codes.{Room, Next, CanFind, Located}
+use Rattle.lasso_search.proofs.Difference.{complete}
 use Rattle.lasso_search.proofs.Lassos.{none-accepted}
-use Rattle.lasso_search.proofs.Rounds.{tail-is, tail-long, returned-front, returned-long, returned-tail, round-none}
-use Rattle.lasso_search.proofs.Candidates.{room-as, Standing, front-in, aim, all-room, begins, exhausts, finds}
+use Rattle.lasso_search.proofs.Rounds.{round-none}
+use Rattle.lasso_search.proofs.Candidates.{room-as, Standing, front-in, aim, all-room, Turns, turns-none, status-in, work-in, codes-in, turns-done, status₂-same, work₂-same, turns-on, turns-end}
 use Rattle.lasso_search.proofs.searching.find.Statement.{statement}
 use Rattle.lasso_search.proofs.searching.find.Tie as tie
 
@@ -37,17 +32,9 @@ record Candidates (P : Fdfa) (n reached : ℕ) (rows₀ status₀ work₀ rows s
   out-is : out ≡ Absent reached
   next : Next P n reached 0 rows status work work c
 
--- and the codes below h of the search from c
-record Turns (P : Fdfa) (leads rows : List ℕ) (n s reached : ℕ) (status₀ work₀ status work : List ℕ) (out : Codes) (c : Candidate) (all total h : ℕ) : Type 0 where
-  status-same : length status ≡ length status₀
-  work-same : length work ≡ length work₀
-  out-is : out ≡ Absent reached
-  kept : take (n - 1) work ≡ take (n - 1) work₀
-  ready : Ready leads rows n s (c .state) (take all status) (take (length work - (n - 1)) (drop (n - 1) work)) total h (aimAt n (c .state) (c .count) (P .accepting (c .state)))
-
 abbrev Inv-loop : tie.InvT-loop
 Inv-loop first second t n leads rows status₀ work₀ front reached out₀ c q all total₀ h₀ status work out total h =
-    Turns (difference first second) leads rows n (t .letters) reached status₀ work₀ status work out c all total h
+    (out ≡ Absent reached) × Turns (difference first second) n (t .letters) leads rows status₀ work₀ status work c total h
 
 abbrev μ-loop : tie.MeasureT-loop
 μ-loop first second t n leads rows status₀ work₀ front reached out₀ c q all total₀ h₀ status work out total h = length work₀ - front - h
@@ -82,94 +69,27 @@ module _ (s : tie.Start Inv-loop μ-loop Inv-search μ-search) where
   letters : s .args .t .letters ≡ P .letters
   letters = ap (λ (t : Beside). t .letters) (can .tables)
 
-  some : 0 < n
-  some = omega (arith, complete (can .alike) .start, can .room .all)
-
-  steps : Steps b d (s .args .t) n
-  steps = subst₂ (λ (t : Beside) (m : ℕ). Steps b d t m) (sym (can .tables)) (sym (can .room .all)) (lead-steps (can .alike))
-
-  work-room : n < length (now (s .args .work))
-  work-room =
-      let k : 1 ≤ P .size 0 = complete (can .alike) .starts 0 (omega (arith, some, can .room .all)) in
-      omega (arith, can .room .cells-fit 0 some, mul-le-mul-right n k, one-mul n, some)
-
--- the table of the leading states
-module _ (c : tie.After-tabulate Inv-loop μ-loop Inv-search μ-search) where
-  abbrev begun : tie.Start Inv-loop μ-loop Inv-search μ-search
-  begun = c .before .before .before .before .before .before .before .before
+-- what the search starts with
+module _ (r : tie.After-start Inv-loop μ-loop Inv-search μ-search) where
+  abbrev S : tie.Start Inv-loop μ-loop Inv-search μ-search
+  S = r .before .before .before .before .before .before .before .before .before .before
 
   abbrev leads : List ℕ
-  leads = c .tabulate .last .1 .1 .1 .1 .0
+  leads = r .start .last .1 .1 .1 .1 .0
 
-  leads-table : Tabulated leads (n begun) (begun .args .t .letters) (P begun .step)
-  leads-table =
-      let s = begun in
-      let e : nextPair (b s) (d s) (s .args .t) ≡ P s .step = ap (nextPair (b s) (d s)) (can s .tables) ∙ lead-step (can s .alike) in
-      subst (Tabulated leads (n s) (s .args .t .letters)) e (tabulated _ (steps s) (can s .leads-fit) (c .tabulate .ensures))
+  room₁ : Room (P S) (n S) (length (now (S .args .rows))) (length (r .start .last .1 .1 .1 .1 .1 .0)) (length (r .start .last .1 .1 .1 .1 .1 .1 .0) - front S)
+  room₁ = room-as (can S .room) refl (r .start .kept .1 .1 .1 .1 .1 .0) (ap (λ (l : ℕ). l - front S) (r .start .kept .1 .1 .1 .1 .1 .1 .0))
 
 sub-front : tie.Need-sub-front Inv-loop μ-loop Inv-search μ-search
-sub-front c = some (c .before .before .before .before .before .before)
+sub-front c = let K = can (c .before .before .before .before .before .before) in omega (arith, complete (K .alike) .start, K .room .all)
 
-tabulate-requires : tie.Need-tabulate-requires Inv-loop μ-loop Inv-search μ-search
-tabulate-requires c κs = let s = c .before .before .before .before .before .before .before in (steps s, can s .leads-fit)
-
-slice-relend-prefix-reach : tie.Need-slice-relend-prefix-reach Inv-loop μ-loop Inv-search μ-search
-slice-relend-prefix-reach c = can (begun (c .before .before .before)) .room .leads
-
-slice-aggregate-reach : tie.Need-slice-aggregate-reach Inv-loop μ-loop Inv-search μ-search
-slice-aggregate-reach c = sym (length-take-le _ _ (can (begun (c .before .before .before .before)) .room .leads))
-
-slice-relend-prefix-reach-2 : tie.Need-slice-relend-prefix-reach-2 Inv-loop μ-loop Inv-search μ-search
-slice-relend-prefix-reach-2 c = omega (arith, work-room (begun (c .before .before .before .before)))
-
-slice-aggregate-reach-2 : tie.Need-slice-aggregate-reach-2 Inv-loop μ-loop Inv-search μ-search
-slice-aggregate-reach-2 c = sym (length-take-le _ _ (omega (arith, work-room (begun (c .before .before .before .before .before)))))
-
-reach-requires : tie.Need-reach-requires Inv-loop μ-loop Inv-search μ-search
-reach-requires c κs =
-    let t = c .before .before .before .before .before in
-    let s = begun t in
-    ((P s .step, leads-table t), some s, length-take-le _ _ (can s .room .leads), length-take-le _ _ (omega (arith, work-room s)))
-
--- the leading states reached
-module _ (r : tie.After-reach Inv-loop μ-loop Inv-search μ-search) where
-  abbrev made : tie.After-tabulate Inv-loop μ-loop Inv-search μ-search
-  made = r .before .before .before .before .before .before
-
-  abbrev S : tie.Start Inv-loop μ-loop Inv-search μ-search
-  S = begun made
-
-  abbrev status₁ : List ℕ
-  status₁ = r .reach .last .1 .1 .1 .0 ++ drop (n S) (now (S .args .status))
-
-  abbrev work₁ : List ℕ
-  work₁ = r .reach .last .1 .1 .1 .1 .0 ++ drop (n S) (now (S .args .work))
-
-  status₁-same : length status₁ ≡ length (now (S .args .status))
-  status₁-same = length-front (now (S .args .status)) (r .reach .last .1 .1 .1 .0) (n S) (r .reach .kept .1 .1 .1 .0)
-
-  work₁-same : length work₁ ≡ length (now (S .args .work))
-  work₁-same = length-front (now (S .args .work)) (r .reach .last .1 .1 .1 .1 .0) (n S) (r .reach .kept .1 .1 .1 .1 .0)
-
-  room₁ : Room (P S) (n S) (length (now (S .args .rows))) (length status₁) (length work₁ - front S)
-  room₁ = room-as (can S .room) refl status₁-same (ap (λ (l : ℕ). l - front S) work₁-same)
-
-  round₁ : Round (P S) (take (front S) work₁) (r .reach .result) 0
-  round₁ =
-      let ys = r .reach .last .1 .1 .1 .1 .0 in
-      let l : length ys ≡ n S = r .reach .kept .1 .1 .1 .1 .0 ∙ length-take-le (n S) (now (S .args .work)) (omega (arith, work-room S)) in
-      let f : take (front S) work₁ ≡ take (front S) ys = take-append-le (front S) ys _ (omega arith) in
-      record {
-        leads = subst₂ (λ (k t : ℕ). Leads (P S .step) t k (take (front S) work₁) (r .reach .result)) (can S .room .all) (letters S)
-            (subst (λ (x : List ℕ). Leads (P S .step) (S .args .t .letters) (n S) x (r .reach .result)) (sym f) (r .reach .ensures (P S .step) (leads-table made)));
-        upto = omega arith;
-        none = λ j h. absurd (omega arith);
-      }
+start-requires : tie.Need-start-requires Inv-loop μ-loop Inv-search μ-search
+start-requires c κs = let s = c .before .before .before .before .before .before .before .before .before in (length (now (s .args .rows)), can s)
 
 next-candidate-requires : tie.Need-next-candidate-requires Inv-loop μ-loop Inv-search μ-search
 next-candidate-requires c κs =
-    let r = c .before .before .before .before .before .before .before in
-    ((can (S r) .alike, can (S r) .tables), (room₁ r, round₁ r))
+    let r = c .before .before .before .before .before .before .before .before .before in
+    ((can (S r) .alike, can (S r) .tables), (room₁ r, r .start .ensures .round))
 
 -- what stands for a candidate that was found, whatever code the search for it began at
 again : {P : Fdfa} {n reached from : ℕ} {rows status before work : List ℕ} {c : Candidate} → Next P n reached from rows status before work c → Next P n reached 0 rows status work work c
@@ -185,26 +105,26 @@ module _ (c : tie.At-search Inv-loop μ-loop Inv-search μ-search) where
   abbrev p : tie.After-next-candidate Inv-loop μ-loop Inv-search μ-search
   p = c .before .before .before .before .before .before .before
 
-  abbrev r : tie.After-reach Inv-loop μ-loop Inv-search μ-search
-  r = p .before .before .before .before .before .before .before .before
+  abbrev r : tie.After-start Inv-loop μ-loop Inv-search μ-search
+  r = p .before .before .before .before .before .before .before .before .before .before
 
   abbrev reached : ℕ
-  reached = r .reach .result
+  reached = r .start .result
 
   rows-long : length (c .search .rows) ≡ length (now (S r .args .rows))
   rows-long = c .search .inv .rows-same ∙ p .next-candidate .kept .1 .1 .1 .1 .1 .1 .0
 
   status-long : length (c .search .status) ≡ length (now (S r .args .status))
-  status-long = c .search .inv .status-same ∙ (p .next-candidate .kept .1 .1 .1 .1 .1 .1 .1 .0 ∙ status₁-same r)
+  status-long = c .search .inv .status-same ∙ (p .next-candidate .kept .1 .1 .1 .1 .1 .1 .1 .0 ∙ r .start .kept .1 .1 .1 .1 .1 .0)
 
   work-long : length (c .search .work) ≡ length (now (S r .args .work))
-  work-long = c .search .inv .work-same ∙ (p .next-candidate .kept .1 .1 .1 .1 .1 .1 .1 .1 .0 ∙ work₁-same r)
+  work-long = c .search .inv .work-same ∙ (p .next-candidate .kept .1 .1 .1 .1 .1 .1 .1 .1 .0 ∙ r .start .kept .1 .1 .1 .1 .1 .1 .0)
 
-  standing : Standing (P (S r)) (n (S r)) (S r .args .t .letters) reached (leads (made r)) (c .search .rows) (c .search .status) (c .search .work) (c .search .c)
+  standing : Standing (P (S r)) (n (S r)) (S r .args .t .letters) reached (leads r) (c .search .rows) (c .search .status) (c .search .work) (c .search .c)
   standing = record {
     complete = complete (can (S r) .alike);
     letters = letters (S r);
-    table = leads-table (made r);
+    table = r .start .ensures .table;
     room = room-as (can (S r) .room) rows-long status-long (ap (λ (l : ℕ). l - front (S r)) work-long);
     next = c .search .inv .next;
   }
@@ -213,9 +133,7 @@ mul-all : tie.Need-mul-all Inv-loop μ-loop Inv-search μ-search
 mul-all c = let e = c .before .before .before in omega (arith, all-room (standing e) (c .before .if1 .taken), status-long e, S (r e) .good)
 
 loop-holds : tie.Need-loop-holds Inv-loop μ-loop Inv-search μ-search
-loop-holds c =
-    let e = c .before .before .before in
-    record { status-same = refl; work-same = refl; out-is = e .search .inv .out-is; kept = refl; ready = begins (standing e) (c .before .if1 .taken) }
+loop-holds c = let e = c .before .before .before in (e .search .inv .out-is, turns-none (standing e) (c .before .if1 .taken))
 
 -- a turn of the search from a candidate
 module _ (c : tie.At-loop Inv-loop μ-loop Inv-search μ-search) where
@@ -228,34 +146,23 @@ module _ (c : tie.At-loop Inv-loop μ-loop Inv-search μ-search) where
   here : o .search .c .code < reached o
   here = c .before .before .if1 .taken
 
-  abbrev all : ℕ
-  all = o .search .c .count * n T
-
-  status-in : all ≤ length (c .loop .status)
-  status-in = omega (arith, all-room (standing o) here, c .loop .inv .status-same)
-
-  turn-front : front T ≤ length (c .loop .work)
-  turn-front = omega (arith, c .loop .inv .work-same, front-in (standing o))
-
-  codes-in : c .loop .total ≤ length (o .search .work) - front T
-  codes-in =
-      let F = c .loop .inv .ready .search in
-      omega (arith, codes-few F, F .room, tail-long (front T) (c .loop .work) turn-front, c .loop .inv .work-same)
+  abbrev turns : Turns (P T) (n T) (T .args .t .letters) (leads (r o)) (o .search .rows) (o .search .status) (o .search .work) (c .loop .status) (c .loop .work) (o .search .c) (c .loop .total) (c .loop .h)
+  turns = c .loop .inv .1
 
 slice-relend-prefix-expand : tie.Need-slice-relend-prefix-expand Inv-loop μ-loop Inv-search μ-search
-slice-relend-prefix-expand c = status-in (c .before .before .before)
+slice-relend-prefix-expand c = let l = c .before .before .before in status-in (standing (o l)) (here l) (turns l)
 
 slice-aggregate-expand : tie.Need-slice-aggregate-expand Inv-loop μ-loop Inv-search μ-search
-slice-aggregate-expand c = sym (length-take-le _ _ (status-in (c .before .before .before .before)))
+slice-aggregate-expand c = let l = c .before .before .before .before in sym (length-take-le _ _ (status-in (standing (o l)) (here l) (turns l)))
 
 mul-expand : tie.Need-mul-expand Inv-loop μ-loop Inv-search μ-search
 mul-expand c = let l = c .before .before .before .before in omega (arith, front-in (standing (o l)), work-long (o l), T l .good)
 
 sub-expand : tie.Need-sub-expand Inv-loop μ-loop Inv-search μ-search
-sub-expand c = turn-front (c .before .before .before .before)
+sub-expand c = let l = c .before .before .before .before in work-in (standing (o l)) (here l) (turns l)
 
 part-expand-start : tie.Need-part-expand-start Inv-loop μ-loop Inv-search μ-search
-part-expand-start c = turn-front (c .before .before .before .before)
+part-expand-start c = let l = c .before .before .before .before in work-in (standing (o l)) (here l) (turns l)
 
 part-expand-end : tie.Need-part-expand-end Inv-loop μ-loop Inv-search μ-search
 part-expand-end c = search needs
@@ -264,7 +171,7 @@ expand-requires : tie.Need-expand-requires Inv-loop μ-loop Inv-search μ-search
 expand-requires c κs =
     let i = c .before .before .before .before in
     let l = i .before in
-    (record { aim = aim (standing (o l)) (here l) (n (T l)); ready = l .loop .inv .ready }, i .loop-test .taken)
+    (record { aim = aim (standing (o l)) (here l) (n (T l)); ready = turns l .ready }, i .loop-test .taken)
 
 enum-known-step : tie.Need-enum-known-step Inv-loop μ-loop Inv-search μ-search
 enum-known-step c = search needs
@@ -277,8 +184,8 @@ module _ (x : tie.After-expand Inv-loop μ-loop Inv-search μ-search) where
   abbrev l : tie.At-loop Inv-loop μ-loop Inv-search μ-search
   l = x .before .before .before .before .before .before
 
-  abbrev work : List ℕ
-  work = l .loop .work
+  abbrev F : Standing (P (T l)) (n (T l)) (T l .args .t .letters) (reached (o l)) (leads (r (o l))) (o l .search .rows) (o l .search .status) (o l .search .work) (o l .search .c)
+  F = standing (o l)
 
   abbrev ms : List ℕ
   ms = x .expand .last .1 .1 .1 .1 .1 .1 .1 .0
@@ -286,83 +193,46 @@ module _ (x : tie.After-expand Inv-loop μ-loop Inv-search μ-search) where
   abbrev zs : List ℕ
   zs = x .expand .last .1 .1 .1 .1 .1 .1 .1 .1 .0
 
-  abbrev status₂ : List ℕ
-  status₂ = ms ++ drop (all l) (l .loop .status)
+  kept-status : length ms ≡ length (take (o l .search .c .count * n (T l)) (l .loop .status))
+  kept-status = x .expand .kept .1 .1 .1 .1 .1 .1 .1 .0
 
-  abbrev work₂ : List ℕ
-  work₂ = take (front (T l)) work ++ (zs ++ drop (length work - front (T l)) (drop (front (T l)) work))
-
-  kept-cells : length zs ≡ length (take (length work - front (T l)) (drop (front (T l)) work))
+  kept-cells : length zs ≡ length (take (length (l .loop .work) - front (T l)) (drop (front (T l)) (l .loop .work)))
   kept-cells = x .expand .kept .1 .1 .1 .1 .1 .1 .1 .1 .0
 
-  status₂-same : length status₂ ≡ length (o l .search .status)
-  status₂-same = length-front (l .loop .status) ms (all l) (x .expand .kept .1 .1 .1 .1 .1 .1 .1 .0) ∙ l .loop .inv .status-same
-
-  work₂-long : length work₂ ≡ length work
-  work₂-long = returned-long (front (T l)) work (turn-front l) zs kept-cells
-
-  work₂-same : length work₂ ≡ length (o l .search .work)
-  work₂-same = work₂-long ∙ l .loop .inv .work-same
-
-  status-back : take (all l) status₂ ≡ ms
-  status-back = take-at ms _ (all l) (x .expand .kept .1 .1 .1 .1 .1 .1 .1 .0 ∙ length-take-le (all l) (l .loop .status) (status-in l))
-
-  cells-back : take (length work₂ - front (T l)) (drop (front (T l)) work₂) ≡ zs
-  cells-back = ap (λ (j : ℕ). take (j - front (T l)) (drop (front (T l)) work₂)) work₂-long ∙ returned-tail (front (T l)) work (turn-front l) zs kept-cells
-
-  kept₂ : take (front (T l)) work₂ ≡ take (front (T l)) (o l .search .work)
-  kept₂ = returned-front (front (T l)) work (turn-front l) zs ∙ l .loop .inv .kept
-
-  abbrev q : ℕ
-  q = o l .search .c .state
-
-  expanded : {y : Expansion} → x .expand .result ≡ y → Expanded (joint (leads (made (r (o l)))) (o l .search .rows) (n (T l)) (T l .args .t .letters) q (aim (standing (o l)) (here l) (n (T l)))) ms zs (l .loop .h) y
+  expanded : {y : Expansion} → x .expand .result ≡ y → Expanded (joint (leads (r (o l))) (o l .search .rows) (n (T l)) (T l .args .t .letters) (o l .search .c .state) (aim F (here l) (n (T l)))) ms zs (l .loop .h) y
   expanded e =
-      subst (Expanded (joint (leads (made (r (o l)))) (o l .search .rows) (n (T l)) (T l .args .t .letters) q (aim (standing (o l)) (here l) (n (T l)))) ms zs (l .loop .h)) e
-      (x .expand .ensures (aim (standing (o l)) (here l) (n (T l))) (l .loop .inv .ready))
-
-  ready₂ : {total : ℕ} → Search (joint (leads (made (r (o l)))) (o l .search .rows) (n (T l)) (T l .args .t .letters) q (aim (standing (o l)) (here l) (n (T l)))) ms zs total (l .loop .h + 1) 0
-      → Ready (leads (made (r (o l)))) (o l .search .rows) (n (T l)) (T l .args .t .letters) q (take (all l) status₂) (take (length work₂ - front (T l)) (drop (front (T l)) work₂)) total (l .loop .h + 1) (aim (standing (o l)) (here l) (n (T l)))
-  ready₂ {total} found =
-      let R = l .loop .inv .ready in
-      subst₂ (λ (y z : List ℕ). Ready (leads (made (r (o l)))) (o l .search .rows) (n (T l)) (T l .args .t .letters) q y z total (l .loop .h + 1) (aim (standing (o l)) (here l) (n (T l)))) (sym status-back) (sym cells-back)
-      (record { tables = R .tables; bounded = R .bounded; leading = R .leading; search = found })
+      subst (Expanded (joint (leads (r (o l))) (o l .search .rows) (n (T l)) (T l .args .t .letters) (o l .search .c .state) (aim F (here l) (n (T l)))) ms zs (l .loop .h)) e
+      (x .expand .ensures (aim F (here l) (n (T l))) (turns l .ready))
 
 abbrev of-on : tie.After-known-told2 Inv-loop μ-loop Inv-search μ-search → tie.After-expand Inv-loop μ-loop Inv-search μ-search
 of-on c = c .before .before .before .before .before .before .before
 
 add-h : tie.Need-add-h Inv-loop μ-loop Inv-search μ-search
-add-h c = let y = l (of-on c) in omega (arith, codes-in y, work-long (o y), T y .good)
+add-h c = let x = of-on c in omega (arith, codes-in (F x) (here (l x)) (turns (l x)), work-long (o (l x)), T (l x) .good)
 
 loop-less : tie.Need-loop-less Inv-loop μ-loop Inv-search μ-search
 loop-less c =
     let x = of-on c in
-    let y = l x in
-    omega (arith, codes-in y, y .loop .inv .work-same, x .before .before .before .before .before .loop-test .taken)
+    omega (arith, codes-in (F x) (here (l x)) (turns (l x)), x .before .before .before .before .before .loop-test .taken)
 
 loop-again : tie.Need-loop-again Inv-loop μ-loop Inv-search μ-search
 loop-again c =
     let x = of-on c in
-    record { status-same = status₂-same x; work-same = work₂-same x; out-is = l x .loop .inv .out-is; kept = kept₂ x; ready = ready₂ x (expanded x (c .before .step2 .given .1)) }
+    (l x .loop .inv .0, turns-on (F x) (here (l x)) (turns (l x)) (ms x) (zs x) (kept-status x) (kept-cells x) (expanded x (c .before .step2 .given .1)))
 
 -- a candidate whose search is exhausted
 add-next-candidate : tie.Need-add-next-candidate Inv-loop μ-loop Inv-search μ-search
 add-next-candidate c =
     let y = c .before .before in
     let F = standing (o y) in
-    omega (arith, here y, F .next .round .leads .most, F .room .all, steps (T y) .few)
+    omega (arith, here y, F .next .round .leads .most, F .room .all, few-pairs (can (T y) .alike))
 
 next-candidate-requires-2 : tie.Need-next-candidate-requires-2 Inv-loop μ-loop Inv-search μ-search
 next-candidate-requires-2 c κs =
     let y = c .before .before .before .before .before in
     let F = standing (o y) in
-    let I = y .loop .inv in (
-      (can (T y) .alike, can (T y) .tables),
-      (
-        room-as (F .room) refl (I .status-same) (ap (λ (j : ℕ). j - front (T y)) (I .work-same)),
-        subst (λ (w : List ℕ). Round (P (T y)) w (reached (o y)) (o y .search .c .code + 1)) (sym (I .kept)) (exhausts F (here y) (I .ready) (c .before .before .before .before .loop-test .left)),
-      ),
-    )
+    let I = turns y in
+    ((can (T y) .alike, can (T y) .tables), (room-as (F .room) refl (I .status-same) (ap (λ (j : ℕ). j - front (T y)) (I .work-same)), turns-done F (here y) I (c .before .before .before .before .loop-test .left)))
 
 abbrev of-next : tie.After-slice-known15 Inv-loop μ-loop Inv-search μ-search → tie.After-next-candidate2 Inv-loop μ-loop Inv-search μ-search
 of-next c = c .before .before .before .before .before .before
@@ -380,14 +250,14 @@ search-again c =
     let J = o y .search .inv in
     record {
       rows-same = z .next-candidate2 .kept .1 .1 .1 .1 .1 .1 .0 ∙ J .rows-same;
-      status-same = z .next-candidate2 .kept .1 .1 .1 .1 .1 .1 .1 .0 ∙ (y .loop .inv .status-same ∙ J .status-same);
-      work-same = z .next-candidate2 .kept .1 .1 .1 .1 .1 .1 .1 .1 .0 ∙ (y .loop .inv .work-same ∙ J .work-same);
-      out-is = y .loop .inv .out-is;
+      status-same = z .next-candidate2 .kept .1 .1 .1 .1 .1 .1 .1 .0 ∙ (turns y .status-same ∙ J .status-same);
+      work-same = z .next-candidate2 .kept .1 .1 .1 .1 .1 .1 .1 .1 .0 ∙ (turns y .work-same ∙ J .work-same);
+      out-is = y .loop .inv .0;
       next = again (z .next-candidate2 .ensures);
     }
 
 same-length : tie.Need-same-length Inv-loop μ-loop Inv-search μ-search
-same-length c = made (r (c .before .before)) .tabulate .kept .1 .1 .1 .1 .0
+same-length c = r (c .before .before) .start .kept .1 .1 .1 .1 .0
 
 same-length-2 : tie.Need-same-length-2 Inv-loop μ-loop Inv-search μ-search
 same-length-2 c = rows-long (c .before .before)
@@ -409,26 +279,20 @@ abbrev of-ending : tie.After-known-told Inv-loop μ-loop Inv-search μ-search �
 of-ending c = c .before .before .before .before .before .before .before
 
 same-length-5 : tie.Need-same-length-5 Inv-loop μ-loop Inv-search μ-search
-same-length-5 c = made (r (o (l (of-ending c)))) .tabulate .kept .1 .1 .1 .1 .0
+same-length-5 c = r (o (l (of-ending c))) .start .kept .1 .1 .1 .1 .0
 
 same-length-6 : tie.Need-same-length-6 Inv-loop μ-loop Inv-search μ-search
 same-length-6 c = rows-long (o (l (of-ending c)))
 
 same-length-7 : tie.Need-same-length-7 Inv-loop μ-loop Inv-search μ-search
-same-length-7 c = let x = of-ending c in status₂-same x ∙ status-long (o (l x))
+same-length-7 c = let x = of-ending c in status₂-same (F x) (here (l x)) (turns (l x)) (ms x) (zs x) (kept-status x) (kept-cells x) ∙ status-long (o (l x))
 
 same-length-8 : tie.Need-same-length-8 Inv-loop μ-loop Inv-search μ-search
-same-length-8 c = let x = of-ending c in work₂-same x ∙ work-long (o (l x))
+same-length-8 c = let x = of-ending c in work₂-same (F x) (here (l x)) (turns (l x)) (ms x) (zs x) (kept-status x) (kept-cells x) ∙ work-long (o (l x))
 
 -- the first ending
 returns-2 : tie.Need-returns-2 Inv-loop μ-loop Inv-search μ-search
-returns-2 c =
-    let x = of-ending c in
-    let y = l x in
-    let fits : front (T y) ≤ length (work₂ x) = omega (arith, turn-front y, work₂-long x) in
-    finds (standing (o y)) (here y) (kept₂ x) fits
-    (subst (λ (w : List ℕ). Expanded (joint (leads (made (r (o y)))) (o y .search .rows) (n (T y)) (T y .args .t .letters) (q x) (aim (standing (o y)) (here y) (n (T y)))) (ms x) w (y .loop .h) (Ending (c .before .step .given .0 .0)))
-    (sym (cells-back x) ∙ tail-is (front (T y)) (work₂ x) fits) (expanded x (c .before .step .given .1)))
+returns-2 c = let x = of-ending c in turns-end (F x) (here (l x)) (turns (l x)) (ms x) (zs x) (kept-status x) (kept-cells x) (expanded x (c .before .step .given .1))
 
 pub find-spec : {M : Type 1} → statement M
 find-spec =
@@ -439,12 +303,7 @@ find-spec =
     Inv-search
     μ-search
     sub-front
-    tabulate-requires
-    slice-relend-prefix-reach
-    slice-aggregate-reach
-    slice-relend-prefix-reach-2
-    slice-aggregate-reach-2
-    reach-requires
+    start-requires
     next-candidate-requires
     search-holds
     mul-all
