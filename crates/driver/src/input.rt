@@ -1,6 +1,6 @@
 // Standard input in one buffer: the lines that are there whole are answered, and the rest waits for what is read next. A line that is
 // longer than the buffer is no call.
-use crate::answering::answer_all;
+use answering::answer_all;
 use lines::parts::between;
 use lines::parts::front;
 use lines::words::until;

@@ -1,7 +1,6 @@
 // Every library call by lines: reads lines from standard input, makes the call that each names, and prints one line for each.
 // A line is words with one space between: the call's name, then its arguments (`calls` has the table). A line that begins with
 // `#` is printed as it is, and one that is no call prints `no call`.
-mod answering; // answering.rt: lines and the lines that answer them
 mod input; // input.rt: standard input, line by line
 
 // The buffer has the longest line and its line feed. A proved loop has to end, and nothing says that the input does: the turns are

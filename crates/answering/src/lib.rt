@@ -1,4 +1,4 @@
-// Lines and the lines that answer them.
+// Lines of calls, and the lines that answer them: printed on standard output.
 use calls::dispatch::call_of;
 use calls::dispatch::form;
 use calls::dispatch::make;

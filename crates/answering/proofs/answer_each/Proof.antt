@@ -1,10 +1,10 @@
--- `driver::answering::answer_each` is safe and ends. Assumes nothing.
+-- `answering::answer_each` is safe and ends. Assumes nothing.
 use borrow.Author.Needs.{needs}
 use Prim.Native.Nat.{_-_}
 use lib.ListN.{length}
 use mathlib.Core.Path.{_≡_}
-use Rattle.driver.proofs.answering.answer_each.Statement.{statement}
-use Rattle.driver.proofs.answering.answer_each.Tie as tie
+use Rattle.answering.proofs.answer_each.Statement.{statement}
+use Rattle.answering.proofs.answer_each.Tie as tie
 
 abbrev Inv-loop : tie.InvT-loop
 Inv-loop lines inputs₀ x₀ y₀ w₀ out₀ n₀ at₀ inputs x y w out n at = (length inputs ≡ length inputs₀) × (length x ≡ length x₀) × (length y ≡ length y₀) × (length w ≡ length w₀) × (length out ≡ length out₀)

@@ -1,10 +1,10 @@
--- `driver::answering::answer_all` is safe and ends. Assumes nothing.
+-- `answering::answer_all` is safe and ends. Assumes nothing.
 use borrow.Author.Needs.{needs}
 use mathlib.Core.Path.{sym}
 use Prim.Native.Nat.{ℕ}
 use lib.ListN.{length-replicate}
-use Rattle.driver.proofs.answering.answer_all.Statement.{statement}
-use Rattle.driver.proofs.answering.answer_all.Tie as tie
+use Rattle.answering.proofs.answer_all.Statement.{statement}
+use Rattle.answering.proofs.answer_all.Tie as tie
 
 slice-aggregate-answer-each : tie.Need-slice-aggregate-answer-each
 slice-aggregate-answer-each c = sym (length-replicate {A = ℕ} 900000 0)
