@@ -1,4 +1,4 @@
--- Repetition without a known count, as a loop reads it; and that it is the lines that stand there. Assumes nothing.
+-- Repetition without a known count, as a loop reads it. Assumes nothing.
 use mathlib.Core.Path.{_≡_, ap, sym, subst, _∙_}
 use mathlib.Core.Bool.{true, false, not, true≢false}
 use mathlib.Core.List.{List, [], _∷_, _++_}

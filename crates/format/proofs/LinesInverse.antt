@@ -1,7 +1,7 @@
 -- Repetition without a known count is inverse to printing: what is read are lines that stand there, and lines that stand there,
 -- where no further one begins, are read. Assumes nothing.
-use mathlib.Core.Path.{_≡_, ap, sym, subst, _∙_}
-use mathlib.Core.Bool.{true, false, not, true≢false}
+use mathlib.Core.Path.{_≡_, refl, ap, sym, subst, _∙_}
+use mathlib.Core.Bool.{Bool, true, false, not, true≢false}
 use mathlib.Core.List.{List, [], _∷_, _++_}
 use Prim.Native.Nat.{ℕ, zero, suc, _+_, _≤_, _<_}
 use native.Mathlib.Omega.{arith}
@@ -9,7 +9,7 @@ use lib.ListN.{length, getD, length-append}
 use Rattle.slices.specs.declared.Part.{Part}
 use Rattle.slices.specs.Refusals.{given}
 use Rattle.slices.specs.Tables.{rows}
-use Rattle.slices.proofs.Extremes.{least-is}
+use Rattle.slices.proofs.Extremes.{least-is, least-passes}
 use Rattle.numbers.proofs.Standing.{At, row-at, front-at}
 use Rattle.format.specs.declared.Column.{Column}
 use Rattle.format.specs.Format.{Format, Found, stands, reading, printed, Fits, each}
@@ -77,3 +77,24 @@ module _ (part : Part) (t word : List ℕ) (c : Column) (at : ℕ) where
 
         going : (j : ℕ) → j < m → stops t (getD word 0 0) (reading part t (lines j) at) ≡ true → ⊥
         going j h e = true≢false (sym e ∙ (ap (stops t (getD word 0 0)) (read j (omega arith)) ∙ ap not (begins j h)))
+
+  -- where no further one begins
+  pub lines-end : (w : Found) → 0 < length word → at ≤ length t → linesAt part t word c at ≡ given w → stands t (getD word 0 0) (w .next) ≡ false
+  unfolding repeated repeats
+  lines-end w some h e = not-of (stands t (getD word 0 0) (w .next)) (sym (ap (stops t (getD word 0 0)) e) ∙ least-passes (length t + 2) (λ k. stops t (getD word 0 0) (reading part t (lines k) at)) (omega (arith, few, u .here .within, long)))
+    where
+      m : ℕ
+      m = repeats part t (getD word 0 0) (labelled word c) at
+
+      u : Read t (lines m) at w
+      u = lines-was w h e
+
+      few : m ≤ length (rows m (text m (w .values) some (u .fits) (u .here)))
+      few = far m (w .values) some (u .fits) (u .here) m
+
+      long : length (rows m (text m (w .values) some (u .fits) (u .here))) ≡ length (printed (lines m) (w .values))
+      long = ap length (sym (upto m (w .values) some (u .fits) (u .here) m (omega arith)) ∙ ap (printed (lines m)) (sym (r m (w .values) some (u .fits) (u .here) .whole)))
+
+      not-of : (b : Bool) → not b ≡ true → b ≡ false
+      not-of true q = absurd (true≢false (sym q))
+      not-of false q = refl

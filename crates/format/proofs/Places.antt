@@ -1,5 +1,5 @@
--- The smallest place wins: what is refused lies at or after the place where reading began, so that a fault of what comes later,
--- which is read only from where this ended, never goes first. Assumes nothing.
+-- The place of a refusal is the definition's; these laws bound it: it lies at or after the place where reading began, and of two formats
+-- in a row the second is refused no earlier than where the first ended. Assumes nothing.
 use mathlib.Core.Path.{_≡_, refl, ap, sym, subst, _∙_}
 use mathlib.Core.Bool.{Bool, true, false, cond}
 use mathlib.Core.List.{List, [], _∷_}

@@ -1,7 +1,7 @@
 // Formats of texts: fixed bytes and numbers, read from left to right and written, from one description.
 mod reading; // reading.rt: literals, cells, rows
 mod labelled; // labelled.rt: lines of a word and a number, as many as there are
-mod writing; // writing.rt: the same, written
+mod writing; // writing.rt: literals and rows, written
 
 pub use labelled::read_lines;
 pub use reading::read_cell;

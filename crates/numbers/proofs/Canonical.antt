@@ -129,7 +129,7 @@ number-was part t at v next e = by (leb (length t) at) refl (malformed (runOf t 
         let then : at + runOf t at ≡ next = cc in
         subst (λ (k : ℕ). NumberRead t at v k) then (subst (λ (k : ℕ). NumberRead t at k (at + runOf t at)) same (standing t at (leb-false (length t) at p) q (runOf t at) refl (w .0) (w .1)))
 
--- where it was refused: at its place, or at the end of the text
+-- where it was refused: from its place on, within the text
 abbrev refusedPlace : Number → ℕ
 refusedPlace (Good v next) = 0
 refusedPlace (Refused r) = r .place

@@ -1,5 +1,5 @@
 // A reader that holds the lent text and the place it has reached. Each function takes it apart and leaves the work to
-// `reading`, on the text and the place; `read_number`, whose parameters are plain, serves every other caller.
+// `reading`, on the text and the place; `read_number`, whose parameters are plain, is the call for users.
 use crate::Number;
 use crate::Reader;
 use crate::reading::after_number;
