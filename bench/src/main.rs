@@ -6,6 +6,7 @@
 mod captions;
 mod heavy;
 mod inputs;
+mod texts;
 
 use inputs::{Comparison, Lasso};
 use outside::inclusion::Search;
@@ -37,6 +38,9 @@ fn main() {
     println!(
         "Processor time, median of {ROUNDS} rounds, turn about. Buffers are warm: both sides were called once before."
     );
+    if "text".contains(&wanted) {
+        texts::time();
+    }
 }
 
 fn time_verdict(name: &str, lasso: &Lasso) {

@@ -1,2 +1,3 @@
 mod Fits
 mod Blocks
+mod Example

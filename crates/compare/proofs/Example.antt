@@ -1,0 +1,28 @@
+-- What the comparison of sheet A with sheet B of 01 prints, whole. Assumes nothing.
+use mathlib.Core.Path.{_≡_, refl}
+use mathlib.Core.List.{List, [], _∷_, _++_}
+use Prim.Native.Nat.{ℕ}
+use Rattle.slices.specs.Tables.{rows}
+use Rattle.numbers.specs.Digits.{digitsWithin, digitsOf}
+use Rattle.lasso_search.specs.declared.Outcome.the-variants.{Found}
+use Rattle.compare.specs.Text.{comparisonText}
+
+-- verdict reached opening loop
+abbrev one : List ℕ
+one = 118 ∷ 101 ∷ 114 ∷ 100 ∷ 105 ∷ 99 ∷ 116 ∷ 32 ∷ 114 ∷ 101 ∷ 97 ∷ 99 ∷ 104 ∷ 101 ∷ 100 ∷ 32 ∷ 111 ∷ 112 ∷ 101 ∷ 110 ∷ 105 ∷ 110 ∷ 103 ∷ 32 ∷ 108 ∷ 111 ∷ 111 ∷ 112 ∷ 10 ∷ []
+
+-- missing 1 0 1
+abbrev two : List ℕ
+two = 109 ∷ 105 ∷ 115 ∷ 115 ∷ 105 ∷ 110 ∷ 103 ∷ 32 ∷ 49 ∷ 32 ∷ 48 ∷ 32 ∷ 49 ∷ 10 ∷ []
+
+-- part scene
+abbrev three : List ℕ
+three = 112 ∷ 97 ∷ 114 ∷ 116 ∷ 32 ∷ 115 ∷ 99 ∷ 101 ∷ 110 ∷ 101 ∷ 10 ∷ []
+
+-- loop 1
+abbrev four : List ℕ
+four = 108 ∷ 111 ∷ 111 ∷ 112 ∷ 32 ∷ 49 ∷ 10 ∷ []
+
+pub a-in-b : comparisonText (Found (record { reached = 1; prefix = 0; period = 1 })) [] (1 ∷ []) ≡ one ++ two ++ three ++ four
+unfolding rows digitsOf digitsWithin
+a-in-b = refl
