@@ -6,6 +6,7 @@ ghost use mathlib.Core.Path.{_≡_};
 ghost use Prim.Native.Nat.{ℕ, _≤_};
 ghost use lib.ListN.{length};
 ghost use Rattle.slices.specs.declared.Written.the-variants.{Filled};
+ghost use Rattle.conversion.specs.Forms.{Converts};
 
 // From text to packed sheet, or back.
 pub enum Way {
@@ -18,6 +19,7 @@ const LONGEST: usize = 109402;
 
 // The sheet in its other form; what is filled lies within the slice.
 fn convert(way: Way, source: &[u8], out: &mut [u8]) -> Written
+    ensures { λ r. ⌜ Converts way (now (source .entry)) (now (out .entry)) (now (out .exit)) r ⌝ }
     ensures { λ r. ⌜ ((n : ℕ) → r ≡ Filled n → n ≤ length (now (out .exit))) ⌝ }
 {
     match way {

@@ -1,17 +1,32 @@
 -- `conversion::convert` meets its contract: what a call filled fits the slice, since the last of its tests is 21. Assumes nothing.
-use mathlib.Core.Path.{ap, sym, _∙_}
+use mathlib.Core.Path.{_≡_, ap, sym, subst, _∙_}
+use mathlib.Core.List.{List}
+use Prim.Native.Nat.{ℕ}
 use native.Mathlib.Omega.{arith}
 use lib.ListN.{length}
 use denote.Ref.{now}
 use Rattle.slices.specs.declared.Part.the-variants.{First}
+use Rattle.slices.specs.declared.Written.{Written}
 use Rattle.slices.specs.Refusals.{writtenSays}
+use Rattle.slices.specs.Filling.{Fills}
 use Rattle.packed.specs.Faults.{sheetFault}
 use Rattle.notation.specs.Reading.{numbersOf, faultIn, bytesOf, readFault}
 use Rattle.notation.specs.Text.{textOf}
+use Rattle.notation.specs.Writing.{writeFault}
 use Rattle.console.proofs.Room.{fits}
+use Rattle.conversion.specs.declared.Way.{Way}
+use Rattle.conversion.specs.declared.Way.the-variants.{Pack, Unpack}
+use Rattle.conversion.specs.Forms.{Converts}
 use borrow.Author.Needs.{needs}
 use Rattle.conversion.proofs.convert.Statement.{statement}
 use Rattle.conversion.proofs.convert.Tie as tie
+
+-- either way, by the way that was taken
+packs : {w : Way} (t old : List ℕ) {out : List ℕ} {r : Written} → w ≡ Pack → Fills (readFault t (length old)) (bytesOf t) old out r → Converts w t old out r
+packs t old {out = out} {r = r} e h = subst (λ (w : Way). Converts w t old out r) (sym e) h
+
+unpacks : {w : Way} (b old : List ℕ) {out : List ℕ} {r : Written} → w ≡ Unpack → Fills (writeFault b (length old)) (textOf b) old out r → Converts w b old out r
+unpacks b old {out = out} {r = r} e h = subst (λ (w : Way). Converts w b old out r) (sym e) h
 
 enum-told : tie.Need-enum-told
 enum-told c = search needs
@@ -30,21 +45,27 @@ same-length c = search needs
 
 returns : tie.Need-returns
 unfolding readFault bytesOf
-returns c = λ n e.
-    let s = c .before .before .before .before .before .before .before .before .args in
-    let t = now (s .source) in
-    let h = fits (faultIn (numbersOf 3 t)) (length (now (s .out))) (length (bytesOf t)) (sym (ap writtenSays e) ∙ c .before .before .read .ensures .says) in
-    omega (arith, h, c .before .before .read .kept .1 .0)
+returns c = (
+  packs (now (c .before .before .before .before .before .before .before .before .args .source)) (now (c .before .before .before .before .before .before .before .before .args .out)) (c .before .before .before .before .enum-told .given .1) (c .before .before .read .ensures),
+  λ n e.
+      let s = c .before .before .before .before .before .before .before .before .args in
+      let t = now (s .source) in
+      let h = fits (faultIn (numbersOf 3 t)) (length (now (s .out))) (length (bytesOf t)) (sym (ap writtenSays e) ∙ c .before .before .read .ensures .says) in
+      omega (arith, h, c .before .before .read .kept .1 .0),
+)
 
 same-length-2 : tie.Need-same-length-2
 same-length-2 c = search needs
 
 returns-2 : tie.Need-returns-2
-returns-2 c = λ n e.
-    let s = c .before .before .before .before .before .before .before .before .args in
-    let t = now (s .source) in
-    let h = fits (sheetFault First t) (length (now (s .out))) (length (textOf t)) (sym (ap writtenSays e) ∙ c .before .before .write .ensures .says) in
-    omega (arith, h, c .before .before .write .kept .1 .0)
+returns-2 c = (
+  unpacks (now (c .before .before .before .before .before .before .before .before .args .source)) (now (c .before .before .before .before .before .before .before .before .args .out)) (c .before .before .before .before .enum-told2 .given .1) (c .before .before .write .ensures),
+  λ n e.
+      let s = c .before .before .before .before .before .before .before .before .args in
+      let t = now (s .source) in
+      let h = fits (sheetFault First t) (length (now (s .out))) (length (textOf t)) (sym (ap writtenSays e) ∙ c .before .before .write .ensures .says) in
+      omega (arith, h, c .before .before .write .kept .1 .0),
+)
 
 pub convert-spec : {M : Type 1} → statement M
 convert-spec =

@@ -9,7 +9,7 @@ use Rattle.conversion.proofs.transfer.Tie as tie
 
 -- what was filled lies within the slice
 room : (c : tie.After-answer2) → c .answer2 .given .0 .0 ≤ length (c .before .before .before .convert .last .1 .1 .0)
-room c = c .before .before .before .convert .ensures _ (c .answer2 .given .1)
+room c = c .before .before .before .convert .ensures .1 _ (c .answer2 .given .1)
 
 slice-aggregate-convert : tie.Need-slice-aggregate-convert
 slice-aggregate-convert c = search needs
