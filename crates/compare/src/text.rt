@@ -1,5 +1,5 @@
 // What the comparison prints, made in a lent slice block by block.
-use console::store;
+use format::put_literal;
 use inclusion::Comparison;
 use inclusion::Outcome;
 use numbers::put_field;
@@ -20,8 +20,8 @@ fn put_verdict(verdict: &[u8], z: Comparison, out: &mut [u8], at: usize) -> usiz
     requires { ⌜ (length (now verdict) ≤ 10) × (at + 102 ≤ 18446744073709551615) ⌝ }
     ensures { λ r. ⌜ Stored (now (out .entry)) at (verdictBlock (now (verdict .entry)) z) (now (out .exit)) r × (r ≤ at + 102) ⌝ }
 {
-    let named = store(b"verdict reached opening loop\n", out, at);
-    let judged = store(verdict, out, named);
+    let named = put_literal(b"verdict reached opening loop\n", out, at);
+    let judged = put_literal(verdict, out, named);
     let reached = put_field(z.reached, b' ', out, judged);
     let opened = put_field(z.prefix, b' ', out, reached);
     put_field(z.period, b'\n', out, opened)
@@ -32,7 +32,7 @@ fn put_scene(name: &[u8], scene: u8, out: &mut [u8], at: usize) -> usize
     requires { ⌜ (length (now name) ≤ 8) × (at + 29 ≤ 18446744073709551615) ⌝ }
     ensures { λ r. ⌜ Stored (now (out .entry)) at (now (name .entry) ++ field scene 10) (now (out .exit)) r × (r ≤ at + 29) ⌝ }
 {
-    let named = store(name, out, at);
+    let named = put_literal(name, out, at);
     put_field(wide(scene), b'\n', out, named)
 }
 
@@ -55,7 +55,7 @@ fn put_show(u: &[u8], v: &[u8], out: &mut [u8], at: usize) -> usize
     requires { ⌜ at + 11 + length (now u) * 29 + length (now v) * 29 ≤ 18446744073709551615 ⌝ }
     ensures { λ r. ⌜ Stored (now (out .entry)) at (showBlock (now (u .entry)) (now (v .entry))) (now (out .exit)) r × (r ≤ at + 11 + length (now (u .entry)) * 29 + length (now (v .entry)) * 29) ⌝ }
 {
-    let named = store(b"part scene\n", out, at);
+    let named = put_literal(b"part scene\n", out, at);
     let opened = put_scenes(b"opening ", u, out, named);
     put_scenes(b"loop ", v, out, opened)
 }

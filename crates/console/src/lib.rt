@@ -12,10 +12,7 @@ pub use files::load;
 pub use files::save;
 pub use printing::print;
 pub use printing::print_refusal;
-pub use printing::put;
-pub use printing::put_number;
 pub use printing::refusal_text;
-pub use printing::store;
 
 // The longest file that a program takes. One byte more is read, to tell that a file is longer.
 const LONGEST: usize = 65536;

@@ -4,10 +4,9 @@ use slices::Part;
 use slices::Refusal;
 use slices::copy;
 use slices::wide;
-ghost use Prim.Native.Nat.{_+_, _≤_};
+ghost use Prim.Native.Nat.{_≤_};
 ghost use lib.ListN.{length};
 ghost use Rattle.numbers.specs.Digits.{field};
-ghost use Rattle.numbers.specs.Storing.{Stored};
 ghost use Rattle.console.specs.Printed.{partField, refusalText, Shows};
 
 // Room for a refusal: its line of names, 19 bytes, two numbers and a name.
@@ -25,20 +24,6 @@ pub fn put(text: &[u8], out: &mut [u8]) -> usize
 {
     copy(text, out);
     text.len()
-}
-
-// A text from a place on, each byte where there is room for it; and the place after it.
-pub fn store(text: &[u8], out: &mut [u8], at: usize) -> usize
-    requires { ⌜ at + length (now text) ≤ 18446744073709551615 ⌝ }
-    ensures { λ r. ⌜ Stored (now (out .entry)) at (now (text .entry)) (now (out .exit)) r ⌝ }
-{
-    let mut p = at;
-    let mut i = 0;
-    while i < text.len() {
-        p = numbers::put(out, p, text[i]);
-        i += 1;
-    }
-    p
 }
 
 // The digits that a number takes, then the byte that ends its field.

@@ -7,11 +7,11 @@ use borrow.Author.Needs.{needs}
 use Rattle.compare.proofs.text.put_show.Statement.{statement}
 use Rattle.compare.proofs.text.put_show.Tie as tie
 
-slice-aggregate-store : tie.Need-slice-aggregate-store
-slice-aggregate-store c = search needs
+slice-aggregate-put-literal : tie.Need-slice-aggregate-put-literal
+slice-aggregate-put-literal c = search needs
 
-store-requires : tie.Need-store-requires
-store-requires c κs = search needs
+put-literal-requires : tie.Need-put-literal-requires
+put-literal-requires c κs = search needs
 
 slice-aggregate-put-scenes : tie.Need-slice-aggregate-put-scenes
 slice-aggregate-put-scenes c = search needs
@@ -34,14 +34,14 @@ returns c =
     let a = b .before .before .before .before .before in
     let t = a .before .before .before .before .before in
     let s = t .before .before .before .before .before .before in
-    show-stored (length (now (s .args .u)) * 29) (length (now (s .args .v)) * 29) _ _ (t .store .ensures) (a .put-scenes .ensures) (b .put-scenes2 .ensures)
+    show-stored (length (now (s .args .u)) * 29) (length (now (s .args .v)) * 29) _ _ (t .put-literal .ensures) (a .put-scenes .ensures) (b .put-scenes2 .ensures)
 
 pub put-show-spec : {M : Type 1} → statement M
 put-show-spec =
     tie.close
     (tie.spec
-    slice-aggregate-store
-    store-requires
+    slice-aggregate-put-literal
+    put-literal-requires
     slice-aggregate-put-scenes
     put-scenes-requires
     slice-aggregate-put-scenes-2

@@ -12,33 +12,33 @@ small :
 small s = (omega arith, omega arith, omega arith)
 
 -- the places of the calls, from each to the one before it
-abbrev start : tie.After-store → tie.Start
+abbrev start : tie.After-put-literal → tie.Start
 start c = c .before .before .before .before .before
 
-abbrev first : tie.After-store2 → tie.After-store
+abbrev first : tie.After-put-literal2 → tie.After-put-literal
 first c = c .before .before .before .before
 
-abbrev second : tie.After-put-field → tie.After-store2
+abbrev second : tie.After-put-field → tie.After-put-literal2
 second c = c .before .before .before .before
 
 abbrev third : tie.After-put-field2 → tie.After-put-field
 third c = c .before .before .before .before
 
-slice-aggregate-store : tie.Need-slice-aggregate-store
-slice-aggregate-store c = search needs
+slice-aggregate-put-literal : tie.Need-slice-aggregate-put-literal
+slice-aggregate-put-literal c = search needs
 
-store-requires : tie.Need-store-requires
-store-requires c κs = search needs
+put-literal-requires : tie.Need-put-literal-requires
+put-literal-requires c κs = search needs
 
-store-requires-2 : tie.Need-store-requires-2
-store-requires-2 c κs = search needs
+put-literal-requires-2 : tie.Need-put-literal-requires-2
+put-literal-requires-2 c κs = search needs
 
 put-field-requires : tie.Need-put-field-requires
 put-field-requires c κs =
     let b = c .before .before .before in
     let a = first b in
     let s = start a in
-    omega (arith, s .pre, a .store .ensures .next, b .store2 .ensures .next, field-few (s .args .z .reached) 32 (small s .0))
+    omega (arith, s .pre, a .put-literal .ensures .next, b .put-literal2 .ensures .next, field-few (s .args .z .reached) 32 (small s .0))
 
 put-field-requires-2 : tie.Need-put-field-requires-2
 put-field-requires-2 c κs =
@@ -46,7 +46,7 @@ put-field-requires-2 c κs =
     let b = second d in
     let a = first b in
     let s = start a in
-    omega (arith, s .pre, a .store .ensures .next, b .store2 .ensures .next, d .put-field .ensures .next, field-few (s .args .z .reached) 32 (small s .0), field-few (s .args .z .prefix) 32 (small s .1))
+    omega (arith, s .pre, a .put-literal .ensures .next, b .put-literal2 .ensures .next, d .put-field .ensures .next, field-few (s .args .z .reached) 32 (small s .0), field-few (s .args .z .prefix) 32 (small s .1))
 
 put-field-requires-3 : tie.Need-put-field-requires-3
 put-field-requires-3 c κs =
@@ -55,7 +55,7 @@ put-field-requires-3 c κs =
     let b = second d in
     let a = first b in
     let s = start a in
-    omega (arith, s .pre, a .store .ensures .next, b .store2 .ensures .next, d .put-field .ensures .next, e .put-field2 .ensures .next, field-few (s .args .z .reached) 32 (small s .0), field-few (s .args .z .prefix) 32 (small s .1), field-few (s .args .z .period) 10 (small s .2))
+    omega (arith, s .pre, a .put-literal .ensures .next, b .put-literal2 .ensures .next, d .put-field .ensures .next, e .put-field2 .ensures .next, field-few (s .args .z .reached) 32 (small s .0), field-few (s .args .z .prefix) 32 (small s .1), field-few (s .args .z .period) 10 (small s .2))
 
 same-length : tie.Need-same-length
 same-length c = search needs
@@ -68,15 +68,15 @@ returns c =
     let b = second d in
     let a = first b in
     let s = start a in
-    verdict-stored _ (s .args .z) (s .pre .0) (small s .0) (small s .1) (small s .2) (a .store .ensures) (b .store2 .ensures) (d .put-field .ensures) (e .put-field2 .ensures) (f .put-field3 .ensures)
+    verdict-stored _ (s .args .z) (s .pre .0) (small s .0) (small s .1) (small s .2) (a .put-literal .ensures) (b .put-literal2 .ensures) (d .put-field .ensures) (e .put-field2 .ensures) (f .put-field3 .ensures)
 
 pub put-verdict-spec : {M : Type 1} → statement M
 put-verdict-spec =
     tie.close
     (tie.spec
-    slice-aggregate-store
-    store-requires
-    store-requires-2
+    slice-aggregate-put-literal
+    put-literal-requires
+    put-literal-requires-2
     put-field-requires
     put-field-requires-2
     put-field-requires-3
