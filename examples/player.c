@@ -90,6 +90,8 @@ static void compare(struct slice first, struct slice second)
         struct slice opening = {opening_room, number(answer, 3)};
         struct slice loop = {loop_room, number(answer, 4)};
         print_show("counter-show", opening, loop);
+        printf("  first waits %" PRIu64 ", ends %" PRIu64 "; second waits %" PRIu64 ", ends %" PRIu64 "\n",
+               number(answer, 5), number(answer, 6), number(answer, 7), number(answer, 8));
         judge("  first", first, opening, loop);
         judge("  second", second, opening, loop);
     }

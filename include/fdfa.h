@@ -36,7 +36,8 @@ uint32_t fdfa_verdict(const uint8_t *sheet, size_t sheet_len,
                       uint8_t *answer, size_t answer_len);
 
 /*
- * Whether every show that closes in both sheets and is accepted by the first is accepted by the second; if not, the first counter-show.
+ * Whether every show that closes in both sheets and is accepted by the first is accepted by the second; if not, the first counter-show, and
+ * for each sheet the place where it waits after the show's opening and the loop place where it ends after one turn of the show's loop.
  *
  * first    a packed sheet
  * second   a packed sheet with as many scenes

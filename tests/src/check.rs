@@ -3,7 +3,7 @@
 use crate::case::{Call, Case, LONGEST_WORD};
 use crate::guarded::Region;
 use crate::inclusion::{Inclusion, Search};
-use crate::layout::{compare_answer, verdict_answer, COMPARE_BYTES, VERDICT_BYTES};
+use crate::layout::{compare_answer, verdict_answer, COMPARE_BYTES, STANDINGS, VERDICT_BYTES};
 use crate::library;
 use crate::sheet::{Part, Refusal};
 use crate::verdict::{verdict, Verdict};
@@ -29,6 +29,33 @@ pub enum Damage {
     Returned,
     /// One byte of a slice, or near it, counted from the slice's start.
     Slice(usize, isize),
+    /// What a comparison's answer says of waits and ends.
+    Standings(WrongStandings),
+}
+
+/// One of the four numbers is one more, the two sheets' are exchanged, or all are what the lent slice held before the call.
+#[derive(Clone, Copy, Debug, PartialEq, Eq, PartialOrd, Ord)]
+pub enum WrongStandings {
+    FirstWaits,
+    FirstEnds,
+    SecondWaits,
+    SecondEnds,
+    Exchanged,
+    LeftOver,
+}
+
+impl WrongStandings {
+    pub const ALL: [Self; 6] =
+        [Self::FirstWaits, Self::FirstEnds, Self::SecondWaits, Self::SecondEnds, Self::Exchanged, Self::LeftOver];
+
+    /// Puts the fault into the bytes of the four numbers.
+    fn put(self, numbers: &mut [u8], before: &[u8]) {
+        match self {
+            Self::Exchanged => numbers.rotate_left(numbers.len() / 2),
+            Self::LeftOver => numbers.copy_from_slice(before),
+            number => numbers[8 * number as usize] += 1,
+        }
+    }
 }
 
 pub struct Checker {
@@ -60,6 +87,9 @@ impl Checker {
             }
             (Call::Compare, [first, second, prefix, period, answer]) => {
                 let result = self.search.compare(first, second, prefix, period);
+                if let Ok(found) = result {
+                    found.assert_walked([first, second], prefix, period);
+                }
                 answer[..COMPARE_BYTES].copy_from_slice(&compare_answer(&result));
                 result.map_or_else(refused, Outcome::Inclusion)
             }
@@ -75,7 +105,7 @@ impl Checker {
         self.compare(case, &due, returned).map(|()| due.outcome)
     }
 
-    /// Runs the case and damages what it left. Answers None where there is no such byte, else whether the damage was found.
+    /// Runs the case and damages what it left. Answers None where that changes nothing, else whether the damage was found.
     pub fn check_damaged(&mut self, case: &Case, damage: Damage) -> Option<bool> {
         let due = self.due(case);
         let mut returned = self.call(case);
@@ -83,6 +113,15 @@ impl Checker {
             Damage::Returned => returned ^= 1,
             Damage::Slice(slice, at) if !self.regions[slice].damage(at) => return None,
             Damage::Slice(..) => {}
+            Damage::Standings(wrong) => {
+                let (region, before) = (&mut self.regions[case.slices.len() - 1], case.slices.last()?);
+                let numbers = region.lent_mut().get_mut(STANDINGS).filter(|_| case.call == Call::Compare)?;
+                let right = numbers.to_vec();
+                wrong.put(numbers, before.get(STANDINGS)?);
+                if numbers == right {
+                    return None;
+                }
+            }
         }
         let found = self.compare(case, &due, returned).is_err();
         if let Damage::Slice(slice, at) = damage {

@@ -12,7 +12,8 @@ pub fn nothing(letters: usize) -> Vec<u8> {
     Draft { letters, leading: vec![0; letters], progress: vec![(vec![0; letters], vec![0])] }.pack()
 }
 
-/// `Contained` is empty; `Missing` is found, with the lasso at the start of `prefix` and `period`.
+/// `Contained` is empty; `Missing` is found, with the lasso at the start of `prefix` and `period`. There is no second sheet: the family
+/// that stands in for it waits and ends at 0, as is due.
 pub fn first_accepted(
     search: &mut Search,
     cells: usize,
@@ -30,6 +31,7 @@ mod tests {
     use crate::generate;
     use crate::naive::{first_lasso, reached_states, Family};
     use crate::random::Random;
+    use crate::standing::Standing;
 
     #[test]
     fn agrees_with_the_trial_of_all_short_lassos() {
@@ -55,10 +57,11 @@ mod tests {
                     assert_eq!(reached, reached_states(&family));
                     empty += 1;
                 }
-                Inclusion::Missing { reached, prefix, period } => {
+                Inclusion::Missing { reached, prefix, period, standings } => {
                     assert_eq!(reached, reached_states(&family));
                     let lasso = (u[..prefix].to_vec(), v[..period].to_vec());
                     assert!(wanted(&lasso.0, &lasso.1));
+                    assert_eq!(standings, [family.standing(&lasso.0, &lasso.1), Standing::default()]);
                     if period <= longest_period {
                         assert_eq!(tried, Some(lasso));
                         found += 1;

@@ -195,3 +195,15 @@ pub fn lock(letters: usize, states: usize, size: usize, marked: bool, random: &m
     }
     Draft { letters, leading, progress }
 }
+
+/// A sheet whose leading states come one after the other, up to `waits`, which stays. There the progress state `ends`, the last, is marked
+/// alone (or alone is not), elsewhere none (or all): a lasso found waits and ends at those two.
+pub fn waiting(letters: usize, waits: usize, ends: usize, marked: bool, random: &mut Random) -> Draft {
+    let leading = (0..=waits).flat_map(|state| vec![waits.min(state + 1) as u8; letters]).collect();
+    let mut progress = Vec::new();
+    for state in 0..=waits {
+        let marks = (0..=ends).map(|at| ((state == waits && at == ends) == marked) as u8).collect();
+        progress.push((table(random, Shape::Permutation, letters, ends + 1), marks));
+    }
+    Draft { letters, leading, progress }
+}

@@ -106,9 +106,8 @@ impl Region {
     }
 
     pub fn bytes_mut(&mut self) -> BytesMut<'_> {
-        let lent = self.lent.clone();
         match self.pointer {
-            Pointer::Real => BytesMut::from(&mut self.memory_mut()[lent]),
+            Pointer::Real => BytesMut::from(self.lent_mut()),
             Pointer::Null => BytesMut::NULL,
             // As above.
             Pointer::Guard => BytesMut::from(unsafe { slice::from_raw_parts_mut(self.base, 0) }),
@@ -151,6 +150,12 @@ impl Region {
         // Within the mapping: what is not accessible ends the program.
         assert!((-(PAGE as isize)..(self.capacity + PAGE) as isize).contains(&(self.lent.start as isize + at)));
         unsafe { ptr::read_volatile(self.base.add(PAGE + self.lent.start).offset(at)) }
+    }
+
+    /// The lent slice itself. For the self-test.
+    pub fn lent_mut(&mut self) -> &mut [u8] {
+        let lent = self.lent.clone();
+        &mut self.memory_mut()[lent]
     }
 
     /// Changes one byte, counted from the lent slice's start; answers whether there is such a byte. For the self-test.

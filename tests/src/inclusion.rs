@@ -7,6 +7,7 @@
 //! the first sheet and an unmarked one of the second.
 
 use crate::sheet::{Part, Refusal, Sheet, MOST};
+use crate::standing::Standing;
 
 /// The cells that the players' comparison has.
 pub const CELLS: usize = 8192;
@@ -20,10 +21,25 @@ pub fn cells_needed(first: &Sheet, second: &Sheet) -> usize {
     pairs + pairs * first.largest_size() * second.largest_size()
 }
 
+/// Of a counterexample: its lengths, and where it takes each sheet.
 #[derive(Clone, Copy, Debug, PartialEq, Eq)]
 pub enum Inclusion {
     Contained { reached: usize },
-    Missing { reached: usize, prefix: usize, period: usize },
+    Missing { reached: usize, prefix: usize, period: usize, standings: [Standing; 2] },
+}
+
+impl Inclusion {
+    /// Walks the counterexample, which stands at the start of `prefix` and `period`, through both packed sheets: each must come to
+    /// where the search says.
+    pub fn assert_walked(&self, sheets: [&[u8]; 2], prefix: &[u8], period: &[u8]) {
+        if let Inclusion::Missing { prefix: prefix_length, period: period_length, standings, .. } = *self {
+            let walked = sheets.map(|bytes| {
+                let sheet = Sheet::read(bytes, Part::First).expect("the sheets were in order");
+                Standing::walked(&sheet, &prefix[..prefix_length], &period[..period_length])
+            });
+            assert_eq!(standings, walked, "the search and the walk come to other states");
+        }
+    }
 }
 
 /// How a search met a node: from which node (by its place in the queue) and by which letter.
@@ -124,7 +140,8 @@ impl Search {
             }
             if let Some(found) = self.search_from(start, size, reached) {
                 let (prefix, period) = self.hand_over(start, found, prefix, period)?;
-                return Ok(Inclusion::Missing { reached, prefix, period });
+                let standings = self.standings(&second, start, found);
+                return Ok(Inclusion::Missing { reached, prefix, period, standings });
             }
         }
         Ok(Inclusion::Contained { reached })
@@ -163,7 +180,9 @@ impl Search {
         tail
     }
 
-    /// Takes the two progress automata of a pair together, and answers how many progress states they have together.
+    /// Takes the two progress automata of a pair together, and answers how many progress states they have together. It is kept apart, so
+    /// that the search has all registers.
+    #[inline(never)]
     fn take_progress(&mut self, first: &Sheet, second: &Sheet, pair: usize) -> usize {
         let letters = self.letters;
         let (state1, state2) = self.pairs[pair];
@@ -212,6 +231,14 @@ impl Search {
             head += 1;
         }
         None
+    }
+
+    /// Where the counterexample takes the two sheets: the pair that its search began from, and the progress states that it met last.
+    fn standings(&self, second: &Sheet, pair: usize, found: usize) -> [Standing; 2] {
+        let (waits1, waits2) = self.pairs[pair];
+        let (progress, size2) = (self.nodes[found].progress as usize, second.size(waits2 as usize));
+        [(waits1, progress / size2), (waits2, progress % size2)]
+            .map(|(waits, ends)| Standing { waits: waits as usize, ends })
     }
 
     /// Fills both parts of the counterexample and answers their lengths; fills neither where one is too short.

@@ -3,9 +3,12 @@
 use crate::inclusion::Inclusion;
 use crate::sheet::Refusal;
 use crate::verdict::Verdict;
+use std::ops::Range;
 
 pub const VERDICT_BYTES: usize = 48;
 pub const COMPARE_BYTES: usize = 72;
+/// The bytes of a comparison's numbers 5 to 8: where the counterexample takes the first sheet, then the second.
+pub const STANDINGS: Range<usize> = 40..72;
 
 pub fn verdict_answer(result: &Result<Verdict, Refusal>) -> [u8; VERDICT_BYTES] {
     pack(match result {
@@ -17,7 +20,9 @@ pub fn verdict_answer(result: &Result<Verdict, Refusal>) -> [u8; VERDICT_BYTES] 
 pub fn compare_answer(result: &Result<Inclusion, Refusal>) -> [u8; COMPARE_BYTES] {
     pack(match *result {
         Ok(Inclusion::Contained { reached }) => vec![0, 0, reached],
-        Ok(Inclusion::Missing { reached, prefix, period }) => vec![0, 1, reached, prefix, period],
+        Ok(Inclusion::Missing { reached, prefix, period, standings: [first, second] }) => {
+            vec![0, 1, reached, prefix, period, first.waits, first.ends, second.waits, second.ends]
+        }
         Err(ref refusal) => refused(refusal),
     })
 }

@@ -1,10 +1,11 @@
-//! The calls written a second time, from the papers alone, and what holds the static library and the program `driver` to them.
+//! The calls written a second time, from the papers alone, and what holds the static library and the programs `driver` and `compare` to them.
 //!
-//! `sheet`, `verdict`, `inclusion`, `emptiness`, `boolean`, `cursor`, `numeral` and `sheet_text` are the independent implementation
-//! (`lent` is what they share); `naive` tries all short lassos and checks `inclusion` and `emptiness`.
+//! `sheet`, `verdict`, `inclusion`, `standing`, `emptiness`, `boolean`, `cursor`, `numeral` and `sheet_text` are the independent
+//! implementation (`lent` is what they share); `naive` tries all short lassos and checks `inclusion` and `emptiness`.
 //! `library` calls the static library, on slices that `guarded` lends; `layout` has the bytes of the answers that are due.
 //! `generate`, `mix` and `case` make sheets and cases at random, `rows` has those of the papers, `check` runs one and compares all bytes,
-//! `tally` counts them, and `crash` names the one that broke off. `driver` holds that program to the implementation, line by line.
+//! `tally` counts them, and `crash` names the one that broke off. `driver` holds that program to the implementation, line by line;
+//! `printed` has what the program `compare` is due to print.
 
 pub mod boolean;
 pub mod case;
@@ -22,9 +23,11 @@ pub mod library;
 pub mod mix;
 pub mod naive;
 pub mod numeral;
+pub mod printed;
 pub mod random;
 pub mod rows;
 pub mod sheet;
 pub mod sheet_text;
+pub mod standing;
 pub mod tally;
 pub mod verdict;

@@ -45,10 +45,11 @@ fn damaged(random: &mut Random, mut sheet: Vec<u8>) -> Vec<u8> {
 pub fn sheet_pair(random: &mut Random) -> (&'static str, Vec<u8>, Vec<u8>) {
     let first = generate::sheet(random);
     let draft: (&str, Draft, Draft) = match random.below(64) {
-        0..=15 => {
+        0..=11 => {
             let second = generate::sheet_of(random, first.letters, generate::count);
             ("two valid sheets", first, second)
         }
+        12..=15 => far_states(random),
         16..=19 => ("one sheet twice", first.clone(), first),
         20..=25 => {
             let second = generate::renumbered(random, &first);
@@ -98,6 +99,16 @@ fn long_openings(random: &mut Random) -> (&'static str, Draft, Draft) {
     let first = generate::lock(letters, states1, random.between(1, 3), true, random);
     let second = generate::lock(letters, states2, random.between(1, 3), false, random);
     ("locks", first, second)
+}
+
+/// Sheets whose counterexamples wait and end at four different states above 0.
+fn far_states(random: &mut Random) -> (&'static str, Draft, Draft) {
+    let mut states = [1, 2, 3, 4, 5, 6, 7, 8];
+    random.shuffle(&mut states);
+    let [waits1, ends1, waits2, ends2, ..] = states;
+    let letters = random.between(1, 3);
+    let first = generate::waiting(letters, waits1, ends1, true, random);
+    ("far states", first, generate::waiting(letters, waits2, ends2, false, random))
 }
 
 /// Sheets that need about 8,192 cells, reached or not.

@@ -1,5 +1,6 @@
 //! The comparison by plain trial of all short lassos, straight from the definitions. Only for small sheets.
 
+use crate::standing::Standing;
 use std::cmp::Ordering;
 
 /// A family of DFAs, taken from a packed sheet that is in order.
@@ -53,6 +54,12 @@ impl Family {
             }
         }
         unreachable!("a state comes again within as many turns as there are states");
+    }
+
+    /// Where the lasso takes the family: the leading state after no turn, and its progress state after one.
+    pub fn standing(&self, prefix: &[u8], period: &[u8]) -> Standing {
+        let waits = self.leading_after(prefix, period, 0);
+        Standing { waits, ends: run(&self.progress[waits].0, 0, period) }
     }
 
     /// Whether the lasso is accepted, its leading state and its progress state at the end.
@@ -216,10 +223,11 @@ mod tests {
                     assert_eq!(tried, None);
                     contained += all as usize;
                 }
-                Inclusion::Missing { reached, prefix: length1, period: length2 } => {
+                Inclusion::Missing { reached, prefix: length1, period: length2, standings } => {
                     assert_eq!(reached, reached_pairs(&family1, &family2));
                     let lasso: Lasso = (u[..length1].to_vec(), v[..length2].to_vec());
                     assert!(is_counterexample(&family1, &family2, &lasso.0, &lasso.1));
+                    assert_eq!(standings, [&family1, &family2].map(|family| family.standing(&lasso.0, &lasso.1)));
                     if length1 <= prefix && length2 <= period {
                         assert_eq!(tried, Some(lasso));
                         found += 1;

@@ -1,5 +1,6 @@
 //! Cases that the papers give, or whose answers were worked out by hand from them, with the numbers that the answer must hold.
 
+use crate::boolean::complement;
 use crate::case::Case;
 
 /// The sheets of 01.
@@ -8,6 +9,24 @@ pub const B: &[u8] = &[2, 1, 2, 0, 0, 1, 0, 1, 1, 0, 1];
 pub const C: &[u8] = &[1, 1, 2, 0, 1, 0, 1, 0];
 pub const D: &[u8] = &[1, 2, 1, 1, 1, 0, 0, 1, 0, 1];
 pub const E: &[u8] = &[1, 3, 1, 1, 1, 1, 2, 1, 0, 0, 0, 1, 0, 0];
+
+/// One scene, three places one after the other, of which the last stays. Its loop automaton goes 0, 2, 1, 0 and marks 1; that of place 0
+/// goes 0, 1, 2, 0.
+pub const LEFT: &[u8] = &[1, 3, 3, 1, 3, 1, 2, 2, 1, 2, 0, 0, 0, 0, 0, 1, 2, 0, 1, 0, 1, 0];
+/// One scene, four places one after the other, of which the last stays. Its loop automaton goes 0, 1, 4, 2, 3, 0 and marks all but 4; that
+/// of place 0 goes 0, 1, 1.
+pub const RIGHT: &[u8] = &[1, 4, 2, 1, 1, 5, 1, 2, 3, 3, 1, 1, 1, 1, 0, 1, 0, 1, 1, 4, 3, 0, 2, 1, 1, 1, 1, 0];
+/// Two scenes: 0 leads to place 1 for good, where nothing is marked, 1 leads to place 2 for good. There the loop 1 0 goes 0, 2, 3, which
+/// alone is marked, and once more 0, 1; the loops 0, 1, 0 0 and 0 1 end elsewhere.
+pub const HALL: &[u8] =
+    &[2, 3, 1, 2, 4, 1, 2, 1, 1, 2, 2, 0, 0, 0, 1, 1, 0, 0, 0, 0, 1, 2, 1, 1, 3, 1, 0, 0, 0, 0, 0, 1];
+
+/// The same sheet with every mark turned.
+pub fn complemented(sheet: &[u8]) -> Vec<u8> {
+    let mut turned = sheet.to_vec();
+    complement(sheet, &mut turned).expect("the sheet is in order and fits");
+    turned
+}
 
 pub struct Row {
     pub name: &'static str,
@@ -22,6 +41,7 @@ pub fn rows() -> Vec<Row> {
     let mut rows = verdict_rows();
     rows.extend(sheet_rows());
     rows.extend(compare_rows());
+    rows.extend(standing_rows());
     rows
 }
 
@@ -94,7 +114,7 @@ fn compare_rows() -> Vec<Row> {
         compare_row("B in A", [B, A], [3, 3], &[0, 0, 1], none),
         compare_row("D in C", [D, C], [3, 3], &[0, 0, 2], none),
         compare_row("E in D, which marks all", [E, D], [9, 9], &[0, 0, 3], none),
-        compare_row("D in E: place 2 marks nothing", [D, E], [9, 9], &[0, 1, 3, 2, 2], [&[0, 0], &[0, 0]]),
+        compare_row("D in E: place 2 marks nothing", [D, E], [9, 9], &[0, 1, 3, 2, 2, 0, 0, 2], [&[0, 0], &[0, 0]]),
         compare_row("D in E, short opening", [D, E], [1, 0], &[23, 2, 2], none),
         compare_row("D in E, short loop", [D, E], [2, 1], &[23, 3, 2], none),
         compare_row("scene counts differ", [A, C], [3, 3], &[7, 1, 0], none),
@@ -104,6 +124,28 @@ fn compare_rows() -> Vec<Row> {
         compare_row("8,192 cells: 8 x 17 is no multiple of 15", full, [9, 135], &[23, 3, 136], none),
         compare_row("6,951 cells, a loop of 6,944", cycles, [0, 6944], &[0, 1, 7, 0, 6944], [&[], &zeros]),
         compare_row("one scene too few for it", cycles, [0, 6943], &[23, 3, 6944], none),
+    ]
+}
+
+/// Numbers 5 to 8: where the counter-show takes the first sheet, then the second.
+///
+/// LEFT in RIGHT: no loop leads back to (0, 0), (1, 1) or (2, 2); the opening 0 0 0 leads to (2, 3), and every loop leads back there. The
+/// loop 0 ends at 2 and 1: the first rejects it. The loop 0 0 ends at 1, marked, and at 4, not marked.
+fn standing_rows() -> Vec<Row> {
+    let none: [&[u8]; 2] = [&[], &[]];
+    let [left, right, hall, c] = [LEFT, RIGHT, HALL, C].map(complemented);
+    let nothing = complemented(A);
+    let (zeros, hall_words): ([&[u8]; 2], [&[u8]; 2]) = ([&[0; 3], &[0; 2]], [&[1], &[1, 0]]);
+    vec![
+        compare_row("LEFT in RIGHT", [LEFT, RIGHT], [3, 2], &[0, 1, 4, 3, 2, 2, 1, 3, 4], zeros),
+        compare_row("their complements, exchanged", [&right, &left], [4, 4], &[0, 1, 4, 3, 2, 3, 4, 2, 1], zeros),
+        compare_row("RIGHT in LEFT", [RIGHT, LEFT], [9, 9], &[0, 1, 4, 3, 1, 3, 1, 2, 2], [&[0; 3], &[0]]),
+        compare_row("LEFT in RIGHT, short opening", [LEFT, RIGHT], [2, 2], &[23, 2, 3], none),
+        compare_row("LEFT in RIGHT, short loop", [LEFT, RIGHT], [3, 1], &[23, 3, 2], none),
+        compare_row("LEFT in LEFT", [LEFT, LEFT], [9, 9], &[0, 0, 3], none),
+        compare_row("the first waits and ends", [HALL, &nothing], [1, 2], &[0, 1, 3, 1, 2, 2, 3], hall_words),
+        compare_row("the second waits and ends", [A, &hall], [1, 2], &[0, 1, 3, 1, 2, 0, 0, 2, 3], hall_words),
+        compare_row("one turn, not two", [&c, C], [0, 1], &[0, 1, 1, 0, 1, 0, 1, 0, 1], [&[], &[0]]),
     ]
 }
 

@@ -5,7 +5,7 @@ use crate::check::Outcome;
 use crate::guarded::Placement;
 use crate::inclusion::Inclusion;
 use crate::sheet::{Part, Sheet};
-use std::collections::BTreeMap;
+use std::collections::{BTreeMap, BTreeSet};
 use std::fmt;
 
 const DUE_OF_VERDICT: [&str; 20] = [
@@ -31,7 +31,7 @@ const DUE_OF_VERDICT: [&str; 20] = [
     "answer slice longer than needed",
 ];
 
-const DUE_OF_COMPARE: [&str; 28] = [
+const DUE_OF_COMPARE: [&str; 33] = [
     "contained",
     "missing",
     "refused 1 First",
@@ -58,6 +58,11 @@ const DUE_OF_COMPARE: [&str; 28] = [
     "loop of 33 scenes or more",
     "loop of 1,000 scenes or more",
     "both slices exactly as long as the show",
+    "first waits above 0",
+    "first ends above 0",
+    "second waits above 0",
+    "second ends above 0",
+    "waits and ends above 0, no two alike",
     "NULL pointer",
     "one slice lent twice",
 ];
@@ -151,7 +156,7 @@ fn outcome_labels(case: &Case, outcome: Outcome) -> Vec<String> {
             add(true, "contained");
             add(reached > 32, "contained, more than 32 pairs reached");
         }
-        Outcome::Inclusion(Inclusion::Missing { prefix, period, .. }) => {
+        Outcome::Inclusion(Inclusion::Missing { prefix, period, standings: [first, second], .. }) => {
             add(true, "missing");
             add(prefix >= 8, "opening of 8 scenes or more");
             add(prefix >= 30, "opening of 30 scenes or more");
@@ -159,6 +164,12 @@ fn outcome_labels(case: &Case, outcome: Outcome) -> Vec<String> {
             add(period >= 1000, "loop of 1,000 scenes or more");
             let exact = case.slices[2].len() == prefix && case.slices[3].len() == period;
             add(exact, "both slices exactly as long as the show");
+            add(first.waits > 0, "first waits above 0");
+            add(first.ends > 0, "first ends above 0");
+            add(second.waits > 0, "second waits above 0");
+            add(second.ends > 0, "second ends above 0");
+            let with_zero = BTreeSet::from([0, first.waits, first.ends, second.waits, second.ends]);
+            add(with_zero.len() == 5, "waits and ends above 0, no two alike");
         }
         Outcome::Refused(number, part) => {
             add(true, &format!("refused {number} {part:?}"));

@@ -10,7 +10,20 @@ use inclusion::Comparison;
 use inclusion::Outcome;
 
 fn compared(word: usize, z: Comparison) -> Reply {
-    told(word, &[z.reached, z.prefix, z.period])
+    let p = z.first;
+    let q = z.second;
+    told(
+        word,
+        &[
+            z.reached,
+            z.prefix,
+            z.period,
+            p.waits,
+            p.ends,
+            q.waits,
+            q.ends,
+        ],
+    )
 }
 
 // An answer, with the words for no such lasso and for the first one.

@@ -5,16 +5,17 @@ use Prim.Native.Nat.{ℕ, _+_, _*_, _≤_, _<_}
 use native.Mathlib.Omega.{arith}
 use lib.ListN.{length, take}
 use Rattle.slices.specs.declared.Refusal.{Refusal}
-use Rattle.lasso_search.specs.declared.Comparison.{Comparison}
-use Rattle.lasso_search.specs.declared.Outcome.{Outcome}
-use Rattle.lasso_search.specs.declared.Outcome.the-variants.{Absent, Found, Refused}
+use Rattle.standing.specs.declared.Standing.{Standing}
+use Rattle.inclusion.specs.declared.Comparison.{Comparison}
+use Rattle.inclusion.specs.declared.Outcome.{Outcome}
+use Rattle.inclusion.specs.declared.Outcome.the-variants.{Absent, Found, Refused}
 use Rattle.numbers.specs.Digits.{field}
 use Rattle.numbers.specs.Storing.{Stored}
 use Rattle.numbers.proofs.Digits.{length-field, digits-few}
 use Rattle.numbers.proofs.Stores.{stored-then, stored-as, stored-written}
 use Rattle.console.specs.Printed.{Shows, refusalText}
 use Rattle.console.proofs.Printed.{shows-as}
-use Rattle.compare.specs.Text.{verdictTitle, contained, missing, verdictBlock, sceneTitle, showBlock, comparisonText, Lies}
+use Rattle.compare.specs.Text.{verdictTitle, contained, missing, verdictBlock, sceneTitle, showBlock, standingTitle, standingLine, standingBlock, comparisonText, Lies}
 
 -- a field of a number of 64 bits
 pub field-few : (n e : ℕ) → n < 18446744073709551616 → length (field n e) ≤ 21
@@ -49,6 +50,16 @@ pub show-stored : {old o₁ o₂ new : List ℕ} {at p₁ p₂ r : ℕ} (m n : �
     → Stored o₂ p₂ v new r × (r ≤ p₂ + n) → Stored old at (sceneTitle ++ u ++ v) new r × (r ≤ at + 11 + m + n)
 show-stored m n u v a b c = (stored-as (three sceneTitle u v) (stored-then _ _ (stored-then _ _ a (b .0)) (c .0)), omega (arith, a .next, b .1, c .1))
 
+-- the last block, line by line
+pub line-stored : {old mid new : List ℕ} {at p r : ℕ} (x : Standing) → x .waits < 18446744073709551616 → x .ends < 18446744073709551616
+    → Stored old at (field (x .waits) 32) mid p → Stored mid p (field (x .ends) 10) new r → Stored old at (standingLine x) new r × (r ≤ at + 42)
+line-stored x h k a b = (stored-then _ _ a b, omega (arith, a .next, b .next, field-few (x .waits) 32 h, field-few (x .ends) 10 k))
+
+pub standing-stored : {old o₁ o₂ new : List ℕ} {at p₁ p₂ r : ℕ} (z : Comparison) → Stored old at standingTitle o₁ p₁ → Stored o₁ p₁ (standingLine (z .first)) o₂ p₂ × (p₂ ≤ p₁ + 42)
+    → Stored o₂ p₂ (standingLine (z .second)) new r × (r ≤ p₂ + 42) → Stored old at (standingBlock z) new r × (r ≤ at + 95)
+standing-stored z a b c =
+    (stored-as (three standingTitle (standingLine (z .first)) (standingLine (z .second))) (stored-then _ _ (stored-then _ _ a (b .0)) (c .0)), omega (arith, a .next, b .1, c .1))
+
 -- a text that is stored from the start and has room is shown
 pub stored-shows : {x old new : List ℕ} {r room : ℕ} → Stored old 0 x new r → r ≤ room → room ≤ length old → Shows x old new r
 stored-shows {x} {old} s h k = record {
@@ -62,17 +73,20 @@ pub lies-found : {answer : Outcome} {z : Comparison} (o p : ℕ) → answer ≡ 
 lies-found o p e l = subst (λ (x : Outcome). Lies x o p) e l
 
 -- all of the text, answer by answer
-pub absent-shown : {answer : Outcome} {z : Comparison} {old new : List ℕ} {r : ℕ} (o p : List ℕ) → answer ≡ Absent z → 237681 ≤ length old
-    → Stored old 0 (verdictBlock contained z) new r × (r ≤ 0 + 102) → Shows (comparisonText answer o p) old new r
-absent-shown o p e h s = shows-as (ap (λ (x : Outcome). comparisonText x o p) (sym e)) (stored-shows (s .0) (s .1) (omega arith))
+pub absent-shown : {answer : Outcome} {z : Comparison} {old mid new : List ℕ} {q r : ℕ} (o p : List ℕ) → answer ≡ Absent z → 237776 ≤ length old
+    → Stored old 0 (verdictBlock contained z) mid q × (q ≤ 0 + 102) → Stored mid q (standingBlock z) new r × (r ≤ q + 95) → Shows (comparisonText answer o p) old new r
+absent-shown {z = z} o p e h a b =
+    shows-as (ap (λ (x : Outcome). comparisonText x o p) (sym e))
+    (stored-shows {room = 237776} (stored-then (verdictBlock contained z) (standingBlock z) (a .0) (b .0)) (omega (arith, a .1, b .1)) h)
 
-pub found-shown : {answer : Outcome} {z : Comparison} {old mid new : List ℕ} {q r : ℕ} (o p : List ℕ) → answer ≡ Found z → 237681 ≤ length old
-    → length (take (z .prefix) o) ≤ 4096 → length (take (z .period) p) ≤ 4096 → Stored old 0 (verdictBlock missing z) mid q × (q ≤ 0 + 102)
-    → Stored mid q (showBlock (take (z .prefix) o) (take (z .period) p)) new r × (r ≤ q + 11 + length (take (z .prefix) o) * 29 + length (take (z .period) p) * 29)
-    → Shows (comparisonText answer o p) old new r
-found-shown {z = z} o p e h k l a b =
-    let s = stored-then (verdictBlock missing z) (showBlock (take (z .prefix) o) (take (z .period) p)) (a .0) (b .0) in
-    shows-as (ap (λ (x : Outcome). comparisonText x o p) (sym e)) (stored-shows {room = 237681} s (omega (arith, a .1, b .1)) h)
+pub found-shown : {answer : Outcome} {z : Comparison} {old o₁ o₂ new : List ℕ} {q₁ q₂ r : ℕ} (o p : List ℕ) → answer ≡ Found z → 237776 ≤ length old
+    → length (take (z .prefix) o) ≤ 4096 → length (take (z .period) p) ≤ 4096 → Stored old 0 (verdictBlock missing z) o₁ q₁ × (q₁ ≤ 0 + 102)
+    → Stored o₁ q₁ (showBlock (take (z .prefix) o) (take (z .period) p)) o₂ q₂ × (q₂ ≤ q₁ + 11 + length (take (z .prefix) o) * 29 + length (take (z .period) p) * 29)
+    → Stored o₂ q₂ (standingBlock z) new r × (r ≤ q₂ + 95) → Shows (comparisonText answer o p) old new r
+found-shown {z = z} o p e h k l a b c =
+    let show = showBlock (take (z .prefix) o) (take (z .period) p) in
+    let s = stored-as (three (verdictBlock missing z) show (standingBlock z)) (stored-then _ (standingBlock z) (stored-then (verdictBlock missing z) show (a .0) (b .0)) (c .0)) in
+    shows-as (ap (λ (x : Outcome). comparisonText x o p) (sym e)) (stored-shows {room = 237776} s (omega (arith, a .1, b .1, c .1)) h)
 
 pub refused-shown : {answer : Outcome} {x : Refusal} {old new : List ℕ} {r : ℕ} (o p : List ℕ) → answer ≡ Refused x → Shows (refusalText x) old new r
     → Shows (comparisonText answer o p) old new r

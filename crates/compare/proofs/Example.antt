@@ -1,11 +1,11 @@
--- What the comparison of sheet A with sheet B of 01 prints, whole. Assumes nothing.
+-- What the comparison of sheet A with sheet B of 01 prints, whole, and which number of the last block stands where. Assumes nothing.
 use mathlib.Core.Path.{_≡_, refl}
 use mathlib.Core.List.{List, [], _∷_, _++_}
 use Prim.Native.Nat.{ℕ}
 use Rattle.slices.specs.Tables.{rows}
 use Rattle.numbers.specs.Digits.{digitsWithin, digitsOf}
-use Rattle.lasso_search.specs.declared.Outcome.the-variants.{Found}
-use Rattle.compare.specs.Text.{comparisonText}
+use Rattle.inclusion.specs.declared.Outcome.the-variants.{Found}
+use Rattle.compare.specs.Text.{standingBlock, comparisonText}
 
 -- verdict reached opening loop
 abbrev one : List ℕ
@@ -23,6 +23,26 @@ three = 112 ∷ 97 ∷ 114 ∷ 116 ∷ 32 ∷ 115 ∷ 99 ∷ 101 ∷ 110 ∷ 101
 abbrev four : List ℕ
 four = 108 ∷ 111 ∷ 111 ∷ 112 ∷ 32 ∷ 49 ∷ 10 ∷ []
 
-pub a-in-b : comparisonText (Found (record { reached = 1; prefix = 0; period = 1 })) [] (1 ∷ []) ≡ one ++ two ++ three ++ four
+-- waits ends
+abbrev five : List ℕ
+five = 119 ∷ 97 ∷ 105 ∷ 116 ∷ 115 ∷ 32 ∷ 101 ∷ 110 ∷ 100 ∷ 115 ∷ 10 ∷ []
+
+-- 0 0, for each sheet
+abbrev six : List ℕ
+six = 48 ∷ 32 ∷ 48 ∷ 10 ∷ []
+
+pub a-in-b : comparisonText
+    (Found (record { reached = 1; prefix = 0; period = 1; first = record { waits = 0; ends = 0 }; second = record { waits = 0; ends = 0 } })) [] (1 ∷ [])
+    ≡ one ++ two ++ three ++ four ++ five ++ six ++ six
 unfolding rows digitsOf digitsWithin
 a-in-b = refl
+
+-- 2 1, then 3 4
+abbrev seven : List ℕ
+seven = 50 ∷ 32 ∷ 49 ∷ 10 ∷ 51 ∷ 32 ∷ 52 ∷ 10 ∷ []
+
+pub last-block : (r u v : ℕ)
+    → standingBlock (record { reached = r; prefix = u; period = v; first = record { waits = 2; ends = 1 }; second = record { waits = 3; ends = 4 } })
+    ≡ five ++ seven
+unfolding digitsOf digitsWithin
+last-block r u v = refl

@@ -1,4 +1,4 @@
--- What the comparison prints for each answer (01), block by block. Assumes nothing.
+-- What the comparison prints for each answer (01, and the last block 02), block by block. Assumes nothing.
 use mathlib.Core.List.{List, [], _∷_, _++_}
 use Prim.Native.Nat.{ℕ, _≤_}
 use lib.ListN.{length, take, getD}
@@ -6,9 +6,10 @@ use Rattle.slices.specs.declared.Part.the-variants.{Opening, Loop}
 use Rattle.slices.specs.Tables.{rows}
 use Rattle.numbers.specs.Digits.{field}
 use Rattle.console.specs.Printed.{partField, refusalText}
-use Rattle.lasso_search.specs.declared.Comparison.{Comparison}
-use Rattle.lasso_search.specs.declared.Outcome.{Outcome}
-use Rattle.lasso_search.specs.declared.Outcome.the-variants.{Absent, Found, Refused}
+use Rattle.standing.specs.declared.Standing.{Standing}
+use Rattle.inclusion.specs.declared.Comparison.{Comparison}
+use Rattle.inclusion.specs.declared.Outcome.{Outcome}
+use Rattle.inclusion.specs.declared.Outcome.the-variants.{Absent, Found, Refused}
 
 -- "verdict reached opening loop" and a line feed
 abbrev pub verdictTitle : List ℕ
@@ -37,10 +38,23 @@ sceneLines name scenes = rows (length scenes) (λ i. name ++ field (getD scenes 
 abbrev pub showBlock : List ℕ → List ℕ → List ℕ
 showBlock u v = sceneTitle ++ sceneLines (partField Opening) u ++ sceneLines (partField Loop) v
 
--- The first block, and for a counter-show the second, of what was written to the slices; or the refusal.
+-- "waits ends" and a line feed
+abbrev pub standingTitle : List ℕ
+standingTitle = 119 ∷ 97 ∷ 105 ∷ 116 ∷ 115 ∷ 32 ∷ 101 ∷ 110 ∷ 100 ∷ 115 ∷ 10 ∷ []
+
+-- The line of a sheet: where it waits, and where it ends.
+abbrev pub standingLine : Standing → List ℕ
+standingLine x = field (x .waits) 32 ++ field (x .ends) 10
+
+-- The last block: the line of names, then a line for the first sheet and one for the second.
+abbrev pub standingBlock : Comparison → List ℕ
+standingBlock z = standingTitle ++ standingLine (z .first) ++ standingLine (z .second)
+
+-- The first block, for a counter-show the second, of what was written to the slices, and the last; or the refusal.
 abbrev pub comparisonText : Outcome → List ℕ → List ℕ → List ℕ
-comparisonText (Absent z) opening period = verdictBlock contained z
-comparisonText (Found z) opening period = verdictBlock missing z ++ showBlock (take (z .prefix) opening) (take (z .period) period)
+comparisonText (Absent z) opening period = verdictBlock contained z ++ standingBlock z
+comparisonText (Found z) opening period =
+    verdictBlock missing z ++ showBlock (take (z .prefix) opening) (take (z .period) period) ++ standingBlock z
 comparisonText (Refused r) opening period = refusalText r
 
 -- A show that was found lies within slices of these lengths.

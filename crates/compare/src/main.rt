@@ -1,5 +1,5 @@
 // Compares the packed sheets `first.sheet` and `second.sheet` of the folder it is run in, and prints whether every show that
-// closes in both and is accepted by the first is accepted by the second, or the first counter-show.
+// closes in both and is accepted by the first is accepted by the second, or the first counter-show, and where both sheets wait and end.
 use console::Length;
 use text::comparison_text;
 

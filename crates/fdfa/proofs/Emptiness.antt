@@ -16,7 +16,7 @@ use Rattle.fdfa.specs.Normalization.{preperiod, periodCount, Normalized}
 use Rattle.fdfa.specs.Acceptance.{accepts}
 use Rattle.fdfa.specs.Boolean.{beside}
 use Rattle.fdfa.specs.Enumeration.{Witness, absent, lasso, firstLasso}
-use Rattle.fdfa.specs.Inclusion.{Answers, none-has, first-is, normalized, widest, Accepted, emptiness}
+use Rattle.fdfa.specs.Inclusion.{First, Answers, none-has, first-is, normalized, widest, Accepted, emptiness}
 use Rattle.slices.proofs.Extremes.{largest-le}
 use Rattle.slices.proofs.Tests.{and-left, and-right, both}
 use Rattle.fdfa.proofs.Words.{walk-closed}
@@ -42,6 +42,13 @@ answers-unique (first-is {u = u} {v = v} f) (first-is {u = u′} {v = v′} g) =
 pub answers-map : {P Q : List ℕ → List ℕ → Type 0} {w : Witness} → ((u v : List ℕ) → P u v → Q u v) → ((u v : List ℕ) → Q u v → P u v) → Answers P w → Answers Q w
 answers-map to from (none-has n) = none-has (λ u v q. n u v (from u v q))
 answers-map to from (first-is {u = u} {v = v} f) = first-is (record { has = to u v (f .has); least = λ u′ v′ q. f .least u′ v′ (from u′ v′ q) })
+
+-- What an answer says: that there is no such lasso, or the first.
+pub answers-none : {P : List ℕ → List ℕ → Type 0} → Answers P absent → (u v : List ℕ) → P u v → ⊥
+answers-none (none-has n) = n
+
+pub answers-first : {P : List ℕ → List ℕ → Type 0} {u v : List ℕ} → Answers P (lasso u v) → First P u v
+answers-first (first-is f) = f
 
 upto-before : {u v u′ v′ u″ v″ : List ℕ} → ((u ≡ u″) × (v ≡ v″)) ⊎ Before u v u″ v″ → Upto u″ u′ → Upto v″ v′ → ((u ≡ u′) × (v ≡ v′)) ⊎ Before u v u′ v′
 upto-before (inl e) (same p) (same q) = inl (e .0 ∙ p, e .1 ∙ q)
@@ -219,10 +226,7 @@ module _ (F : Fdfa) (complete : Complete F) where
 
   -- empty exactly if no lasso at all is accepted, turn-proof or not
   pub empty-none : emptiness F .witness ≡ absent → (u v : List ℕ) → Lasso (F .letters) u v → accepts F u v ≡ true → ⊥
-  empty-none e u v l a = by (subst (Answers (Accepted F)) e emptiness-answers)
-    where
-      by : Answers (Accepted F) absent → ⊥
-      by (none-has n) = n _ _ (accepted-normalized u v l a)
+  empty-none e u v l a = answers-none (subst (Answers (Accepted F)) e emptiness-answers) _ _ (accepted-normalized u v l a)
 
   pub none-empty : ((u v : List ℕ) → Lasso (F .letters) u v → accepts F u v ≡ true → ⊥) → emptiness F .witness ≡ absent
   none-empty n = answers-unique emptiness-answers (none-has (λ u v a. n u v (a .lasso) (a .accepted)))

@@ -18,7 +18,7 @@ use Rattle.slices.proofs.Tests.{and-left, and-right, both, not-of, of-not}
 use Rattle.fdfa.proofs.Normal.{normal, Normalization, normalization}
 use Rattle.fdfa.proofs.Product.{left-below, product-complete, product-parts, product-normalized, product-closing}
 use Rattle.slices.proofs.Extremes.{largest-le}
-use Rattle.fdfa.proofs.Emptiness.{answers-unique, answers-map, normalized-says, normalized-passes, search-answers, search-bounds}
+use Rattle.fdfa.proofs.Emptiness.{answers-unique, answers-map, answers-none, normalized-says, normalized-passes, search-answers, search-bounds}
 
 -- accepted by the first and rejected by the second
 abbrev pub butNot : Bool → Bool → Bool
@@ -132,7 +132,4 @@ module _ (F G : Fdfa) (alike : F .letters ≡ G .letters) (CF : Complete F) (CG 
 
     -- and contained means that there is no such lasso at all
     pub contained-all : comparison F G .witness ≡ absent → (u v : List ℕ) → Lasso (F .letters) u v → accepts F u v ≡ true → accepts G u v ≡ false → ⊥
-    contained-all e u v l a r = by (subst (Answers (Counterexample F G)) e comparison-answers)
-      where
-        by : Answers (Counterexample F G) absent → ⊥
-        by (none-has n) = n _ _ (turned-counterexample u v l a r)
+    contained-all e u v l a r = answers-none (subst (Answers (Counterexample F G)) e comparison-answers) _ _ (turned-counterexample u v l a r)

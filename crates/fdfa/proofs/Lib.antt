@@ -10,5 +10,6 @@ pub mod Enumerated
 pub mod Pumping
 pub mod Emptiness
 pub mod Inclusion
+pub mod Standing
 pub mod Reach
 pub mod OmegaWord

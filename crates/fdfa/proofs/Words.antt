@@ -96,6 +96,9 @@ walk-take f q w i h =
     ap (λ (n : ℕ). walk f q (take n w)) (add-one i)
     ∙ (ap (walk f q) (take-suc w i 0 h) ∙ walk-append f q (take i w) (getD w i 0 ∷ []))
 
+pub walk-on : (f : ℕ → ℕ → ℕ) (q₀ : ℕ) (w : List ℕ) (i : ℕ) {q a : ℕ} → i < length w → q ≡ walk f q₀ (take i w) → a ≡ getD w i 0 → f q a ≡ walk f q₀ (take (i + 1) w)
+walk-on f q₀ w i h e d = (λ j. f (e j) (d j)) ∙ sym (walk-take f q₀ w i h)
+
 pub walk-all : (f : ℕ → ℕ → ℕ) (q : ℕ) (w : List ℕ) (i : ℕ) → length w ≤ i → walk f q (take i w) ≡ walk f q w
 walk-all f q w i h = ap (walk f q) (take-all i w h)
 

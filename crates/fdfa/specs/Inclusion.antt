@@ -85,15 +85,40 @@ pub record ReachedPair (F G : Fdfa) (x : ℕ) : Type 0 where
   pub first : walk (F .step) 0 by ≡ x / G .states
   pub second : walk (G .step) 0 by ≡ x % G .states
 
+-- Where a family stands on a lasso that was found: the leading state after the prefix (02: waits), and where the progress automaton
+-- of that state, from its start, ends after one turn of the period (02: ends); 0 where there is no lasso.
+pub record Standing : Type 0 where
+  pub waits : ℕ
+  pub ends : ℕ
+
+abbrev pub nowhere : Standing
+nowhere = record { waits = 0; ends = 0 }
+
+abbrev pub standing : Fdfa → Witness → Standing
+standing F absent = nowhere
+standing F (lasso u v) = record {
+  waits = walk (F .step) 0 u;
+  ends = walk (F .progress (walk (F .step) 0 u)) 0 v;
+}
+
+-- R, the lasso that was found, and where each of two families stands on it.
 pub record Comparison : Type 0 where
   pub reached : ℕ
   pub witness : Witness
+  pub first : Standing
+  pub second : Standing
 
--- Contained, or the first counterexample; and R.
+-- The first counterexample, or none.
+abbrev pub counterexample : Fdfa → Fdfa → Witness
+counterexample F G = firstLasso (F .letters) (pairs F G) (combinations F G) (counters F G)
+
+-- Contained, or the first counterexample; with R, and where the families stand on it.
 abbrev pub comparison : Fdfa → Fdfa → Comparison
 comparison F G = record {
   reached = reachedStates (F .letters) (pairs F G) (pairStep F G);
-  witness = firstLasso (F .letters) (pairs F G) (combinations F G) (counters F G);
+  witness = counterexample F G;
+  first = standing F (counterexample F G);
+  second = standing G (counterexample F G);
 }
 
 -- A lasso that is normalized and accepted.
@@ -102,9 +127,15 @@ pub record Accepted (F : Fdfa) (u v : List ℕ) : Type 0 where
   pub closes : Normalized F u v
   pub accepted : accepts F u v ≡ true
 
--- Empty, or the first accepted lasso that is normalized; and R.
+-- The first of those, or none.
+abbrev pub firstAccepted : Fdfa → Witness
+firstAccepted F = firstLasso (F .letters) (F .states) (F .states * widest F) (λ u v. normalized F u v && accepts F u v)
+
+-- Empty, or the first accepted lasso that is normalized; with R, and where the family stands on it. There is no second family.
 abbrev pub emptiness : Fdfa → Comparison
 emptiness F = record {
   reached = reachedStates (F .letters) (F .states) (F .step);
-  witness = firstLasso (F .letters) (F .states) (F .states * widest F) (λ u v. normalized F u v && accepts F u v);
+  witness = firstAccepted F;
+  first = standing F (firstAccepted F);
+  second = nowhere;
 }

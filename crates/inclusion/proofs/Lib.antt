@@ -1,3 +1,5 @@
-mod Settling
+pub mod Settling
+mod Answered
 mod Comparing
 mod Nothing
+pub mod Verdicts

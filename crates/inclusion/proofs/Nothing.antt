@@ -11,14 +11,14 @@ use Rattle.fdfa.specs.Words.{Over}
 use Rattle.fdfa.specs.Family.{Fdfa, Complete, walk}
 use Rattle.fdfa.specs.Normalization.{Normalized}
 use Rattle.fdfa.specs.Boolean.{beside, product}
-use Rattle.fdfa.specs.Enumeration.{Witness, lasso}
-use Rattle.fdfa.specs.Inclusion.{First, Counterexample, Accepted, Answers, first-is, Counts, of-none, has-it, lacks-it, Reached, widest, Comparison, emptiness}
+use Rattle.fdfa.specs.Enumeration.{Witness}
+use Rattle.fdfa.specs.Inclusion.{Counterexample, Accepted, Answers, none-has, first-is, Counts, of-none, has-it, lacks-it, Reached, widest, nowhere, standing, Comparison, comparison, emptiness}
 use Rattle.slices.specs.Extremes.{largest}
 use Rattle.fdfa.proofs.Words.{walk-closed}
 use Rattle.fdfa.proofs.Normal.{back-normalized, normalized-accepts}
 use Rattle.fdfa.proofs.Product.{beside-start, product-complete}
-use Rattle.fdfa.proofs.Emptiness.{answers-unique, answers-map, emptiness-answers, empty-none}
-use Rattle.fdfa.proofs.Inclusion.{butNot, accepted-counterexample, counterexample-accepted}
+use Rattle.fdfa.proofs.Emptiness.{answers-unique, answers-map, answers-first, emptiness-answers, empty-none}
+use Rattle.fdfa.proofs.Inclusion.{butNot, comparison-answers}
 use Rattle.fdfa.proofs.Reach.{counts-unique, reached-states}
 use Rattle.slices.specs.declared.Part.the-variants as part
 use Rattle.slices.specs.Refusals.{sound}
@@ -29,11 +29,13 @@ use Rattle.packed.proofs.Soundness.{valid-packable}
 use Rattle.pairing.specs.declared.PairSizes.{PairSizes}
 use Rattle.pairing.specs.Pairs as pairing
 use Rattle.pairing.specs.Pairs.{Alike}
-use Rattle.lasso_search.specs.declared.Outcome.{Outcome}
-use Rattle.lasso_search.specs.Lassos.{difference}
-use Rattle.inclusion.specs.Calls.{Slices, Settled, cellsFault, compareCells, emptyCells, emptyStart, DecidesEmptiness, Emptied, Searched}
+use Rattle.lasso_search.specs.Lassos.{Lent}
+use Rattle.inclusion.specs.declared.Outcome.{Outcome}
+use Rattle.inclusion.specs.declared.Outcome.the-variants.{Absent, Found, Refused}
+use Rattle.inclusion.specs.Calls as calls
+use Rattle.inclusion.specs.Calls.{Slices, Settled, compareCells, emptyCells, emptyStart, DecidesEmptiness, Emptied, Searched}
 use Rattle.inclusion.specs.Nothing.{nothingBytes}
-use Rattle.inclusion.proofs.Settling.{Shows, shows-none, shows-first, shows-refusal, settled-shows, settled-good}
+use Rattle.inclusion.proofs.Settling.{AnswerFor, for-absent, for-lasso, settled-for, settled-good}
 
 zeros-getD : (m x : ℕ) → _≡_ {A = ℕ} (getD (replicate m 0) x 0) 0
 zeros-getD zero x = refl
@@ -140,11 +142,25 @@ module _ (F : Fdfa) (CF : Complete F) (some : 1 ≤ F .letters) (few : F .letter
       closes : Normalized G u v
       closes = back-normalized G CG u v (a .lasso) (at-start (a .lasso .period) (walk-closed (CG .leads) (omega arith) (a .lasso .prefix)) ∙ sym (at-start (a .lasso .prefix) (omega arith)))
 
-  empty-witness : {w : Witness} → Answers (Accepted (product butNot F G)) w → w ≡ emptiness F .witness
-  empty-witness a =
-      answers-unique
-      (answers-map counter-accepted accepted-counter (answers-map (accepted-counterexample F G refl CF CG) (counterexample-accepted F G refl CF CG) a))
-      (emptiness-answers F CF)
+  empty-witness : comparison F G .witness ≡ emptiness F .witness
+  empty-witness = answers-unique (answers-map counter-accepted accepted-counter (comparison-answers F G refl CF CG)) (emptiness-answers F CF)
+
+  -- it has no other state to stand at
+  stands-nowhere : {w : Witness} → Answers (Counterexample F G) w → standing G w ≡ nowhere
+  stands-nowhere (none-has n) = refl
+  stands-nowhere (first-is {u = u} {v = v} f) = λ i. record { waits = only q below i; ends = only p last i }
+    where
+      q : ℕ
+      q = walk (G .step) 0 u
+
+      below : q < 1
+      below = walk-closed (CG .leads) (CG .start) (f .has .lasso .prefix)
+
+      p : ℕ
+      p = walk (G .progress q) 0 v
+
+      last : p < 1
+      last = subst (λ (k : ℕ). p < k) (one-state (F .letters) q below) (walk-closed (CG .progresses q below) (CG .starts q below) (f .has .lasso .period))
 
   pair-reached : (w : List ℕ) → Over (F .letters) w → walk (beside 1 (F .step) (G .step)) 0 w ≡ walk (F .step) 0 w
   pair-reached w o =
@@ -165,23 +181,23 @@ module _ (F : Fdfa) (CF : Complete F) (some : 1 ≤ F .letters) (few : F .letter
       (subst (λ (m : ℕ). Counts (Reached (F .letters) (beside 1 (F .step) (G .step))) m r) (mul-one (F .states)) c))
       (reached-states F CF)
 
-  -- the lassos that are accepted beside nothing are those of the family
-  pub empty-is : emptiness (product butNot F G) ≡ emptiness F
+  -- the counterexamples are the accepted lassos of the family
+  pub empty-is : comparison F G ≡ emptiness F
   empty-is =
-      let CP = product-complete butNot F G refl CF CG in
-      let re = empty-reached (reached-states (product butNot F G) CP) in
-      let we = empty-witness (emptiness-answers (product butNot F G) CP) in λ i. record { reached = re i; witness = we i }
+      let re = empty-reached (reached-states (product butNot F G) (product-complete butNot F G refl CF CG)) in
+      let se = stands-nowhere (comparison-answers F G refl CF CG) in
+      λ i. record { reached = re i; witness = empty-witness i; first = standing F (empty-witness i); second = se i }
 
-  first-of : {u v : List ℕ} → Answers (Accepted F) (lasso u v) → First (Accepted F) u v
-  first-of (first-is f) = f
+  answers : {w : Witness} → emptiness F .witness ≡ w → Answers (Accepted F) w
+  answers e = subst (Answers (Accepted F)) e (emptiness-answers F CF)
 
   counted : {r : ℕ} → r ≡ emptiness F .reached → Counts (Reached (F .letters) (F .step)) (F .states) r
   counted e = subst (Counts (Reached (F .letters) (F .step)) (F .states)) (sym e) (reached-states F CF)
 
-  decides-empty : {o p : List ℕ} {r : Outcome} → Shows (emptiness F .reached) (emptiness F .witness) o p r → DecidesEmptiness F (record { opening = o; period = p }) r
-  decides-empty (shows-none w e) = (counted e, empty-none F CF w)
-  decides-empty (shows-first w e a b) = (counted e, subst₂ (First (Accepted F)) (sym a) (sym b) (first-of (subst (Answers (Accepted F)) w (emptiness-answers F CF))))
-  decides-empty shows-refusal = tt
+  decides-empty : (l : Lent) (r : Outcome) → AnswerFor (emptiness F) l r → DecidesEmptiness F l r
+  decides-empty l (Absent z) s = (counted (s .counted), empty-none F CF (for-absent (emptiness F .witness) s))
+  decides-empty l (Found z) s = (counted (s .counted), answers-first (answers (for-lasso (emptiness F .witness) s)))
+  decides-empty l (Refused r) s = tt
 
 module _ (b : List ℕ) (valid : Valid b) where
   abbrev F : Fdfa
@@ -190,17 +206,17 @@ module _ (b : List ℕ) (valid : Valid b) where
   CF : Complete F
   CF = valid-packable b valid .complete
 
-  pub searched-nothing : {before after : Slices} (r : Outcome) {c : List ℕ} → c ≡ nothingBytes (letterCount b) → Searched (difference b c) (compareCells b c) before after r → Searched F (emptyCells b) before after r
+  pub searched-nothing : {before after : Slices} (r : Outcome) {c : List ℕ} → c ≡ nothingBytes (letterCount b) → Searched (comparison F (decode c)) (compareCells b c) before after r → Searched (emptiness F) (emptyCells b) before after r
   searched-nothing {before} {after} r e S =
-      subst₂ (λ (C : Comparison) (k : ℕ). Settled (cellsFault k (length (before .work))) C k before after r)
-      (ap (λ (x : List ℕ). emptiness (difference b x)) e ∙ empty-is F CF (valid .header .some-letters) (valid .header .few-letters))
+      subst₂ (λ (C : Comparison) (k : ℕ). Searched C k before after r)
+      (ap (λ (x : List ℕ). comparison F (decode x)) e ∙ empty-is F CF (valid .header .some-letters) (valid .header .few-letters))
       (sym (ap (λ (z : PairSizes). z .pairs + z .pairs * z .widest) (sizes-beside b valid e)))
       S
 
-  pub searched-emptied : {before after : Slices} (r : Outcome) → sheetFault part.First b ≡ sound → Searched F (emptyCells b) before after r → Emptied b before after r
+  pub searched-emptied : {before after : Slices} (r : Outcome) → sheetFault part.First b ≡ sound → Searched (emptiness F) (emptyCells b) before after r → Emptied b before after r
   searched-emptied {before} {after} r good S = record {
     settles = settled;
-    decides = decides-empty F CF (valid .header .some-letters) (valid .header .few-letters) (settled-shows (emptiness F) r settled);
+    decides = decides-empty F CF (valid .header .some-letters) (valid .header .few-letters) (calls.lasso after) r (settled-for r settled);
   }
     where
       settled : Settled (emptyStart b (length (before .work))) (emptiness F) (emptyCells b) before after r

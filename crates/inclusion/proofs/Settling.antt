@@ -1,53 +1,91 @@
--- From the search's answer to what a call promises, whatever it searched for. Assumes nothing.
+-- What the answer of a call says of the lasso that it was given for and of the slices, and the refusals before the search, whatever was
+-- searched for. Assumes nothing.
 use mathlib.Core.Path.{_≡_, refl, ap, ap₂, sym, subst, _∙_}
-use mathlib.Core.Bool.{false, true≢false}
-use mathlib.Core.List.{List, _++_}
+use mathlib.Core.Bool.{Bool, true, false, true≢false}
+use mathlib.Core.List.{List}
 use Prim.Native.Nat.{ℕ, _≤_, _<_}
 use native.Mathlib.Omega.{arith}
-use lib.ListN.{length, take, drop, replicate, length-replicate}
+use lib.ListN.{length, take, drop, replicate, length-append}
 use lib.Seq.{take-at}
 use borrow.Author.Tests.{lt-ltb, le-ltb}
 use Rattle.slices.specs.declared.Part.the-variants.{Work}
 use Rattle.slices.specs.declared.Refusal.{Refusal}
-use Rattle.slices.specs.Refusals.{Fault, sound, fault, _then_, unless}
+use Rattle.slices.specs.Refusals.{Fault, sound, fault, _then_, given}
 use Rattle.slices.specs.Filling.{written, filled}
 use Rattle.slices.proofs.Refusals.{when-fails, when-passes, passed, failed, refuses, was-given}
-use Rattle.fdfa.specs.Family.{Fdfa}
 use Rattle.fdfa.specs.Enumeration.{Witness, absent, lasso}
 use Rattle.fdfa.specs.Inclusion as model
-use Rattle.lasso_search.specs.declared.Comparison.{Comparison}
-use Rattle.lasso_search.specs.declared.Outcome.{Outcome}
-use Rattle.lasso_search.specs.declared.Outcome.the-variants.{Absent, Found, Refused}
-use Rattle.lasso_search.specs.Lassos.{Report, reportOf, outcomeSays, Lent, roomFault, prefixOf, periodOf, lassoWritten, Reports}
+use Rattle.lasso_search.specs.Lassos.{Lent, prefixOf, periodOf}
+use Rattle.inclusion.specs.declared.Comparison.{Comparison}
+use Rattle.inclusion.specs.declared.Outcome.{Outcome}
+use Rattle.inclusion.specs.declared.Outcome.the-variants.{Absent, Found, Refused}
+use Rattle.inclusion.specs.Outcomes.{numbersOf, Answer, isAbsent, answerOf, outcomeSays}
+use Rattle.inclusion.specs.Calls as calls
 use Rattle.inclusion.specs.Calls.{Slices, callFault, cellsFault, Settled}
 
--- an answer and the witness that it was given for
-pub data Shows (R : ℕ) (w : Witness) (o p : List ℕ) : Outcome → Type 0 where
-  shows-none : {z : Comparison} → w ≡ absent → z .reached ≡ R → Shows R w o p (Absent z)
-  shows-first : {z : Comparison} {u v : List ℕ} → w ≡ lasso u v → z .reached ≡ R → take (z .prefix) o ≡ u → take (z .period) p ≡ v → Shows R w o p (Found z)
-  shows-refusal : {r : Refusal} → Shows R w o p (Refused r)
+-- an answer and the witness that it was given for: whether there is none, R, and the lengths of what the slices begin with
+pub record GivenFor (R : ℕ) (w : Witness) (l : Lent) (none : Bool) (r a b : ℕ) : Type 0 where
+  pub absence : none ≡ isAbsent w
+  pub counted : r ≡ R
+  pub prefix-is : a ≡ length (prefixOf w)
+  pub period-is : b ≡ length (periodOf w)
+  pub prefix-in : a ≤ length (l .opening)
+  pub period-in : b ≤ length (l .period)
+  pub prefix : take a (l .opening) ≡ prefixOf w
+  pub period : take b (l .period) ≡ periodOf w
 
-front : (u o : List ℕ) → take (length u) (written u o) ≡ u
+front : (u o : List ℕ) {a : ℕ} {o′ : List ℕ} → a ≡ length u → o′ ≡ written u o → (a ≤ length o′) × (take a o′ ≡ u)
 unfolding written
-front u o = take-at u (drop (length u) o) (length u) refl
+front u o e w = (
+  omega (arith, ap length w ∙ length-append u (drop (length u) o)),
+  ap₂ take e w ∙ take-at u (drop (length u) o) (length u) refl,
+)
 
--- the answer of a settled call is given for its witness
-pub settled-shows : {start : Fault} (C : model.Comparison) {cells : ℕ} {before after : Slices} (r : Outcome) → Settled start C cells before after r
-    → Shows (C .reached) (C .witness) (after .opening) (after .period) r
-settled-shows {start} C {before = l} {after = o} r S = by (C .witness) r (callFault start C l) (S .says) (S .opening) (S .period)
+pub given-for : (w : Witness) (before : Lent) {after : Lent} {R r a b : ℕ} {none : Bool} {f : Fault} → f ≡ sound → none ≡ isAbsent w → r ≡ R
+    → a ≡ length (prefixOf w) → b ≡ length (periodOf w)
+    → after .opening ≡ filled f (prefixOf w) (before .opening) → after .period ≡ filled f (periodOf w) (before .period) → GivenFor R w after none r a b
+given-for w before {after} {a = a} {b = b} e n c i j o p = record { absence = n; counted = c; prefix-is = i; period-is = j; prefix-in = x .0; period-in = y .0; prefix = x .1; period = y .1 }
   where
-    by : (w : Witness) (r : Outcome) (f : Fault) → outcomeSays r ≡ unless f (reportOf (C .reached) w)
-        → o .opening ≡ filled f (prefixOf w) (l .opening) → o .period ≡ filled f (periodOf w) (l .period) → Shows (C .reached) w (o .opening) (o .period) r
-    by absent (Absent z) f e a b = shows-none refl (ap (λ (s : Report). s .numbers .reached) (was-given f _ e .1))
-    by absent (Found z) f e a b = absurd (true≢false (sym (ap (λ (s : Report). s .none) (was-given f _ e .1))))
-    by (lasso u v) (Absent z) f e a b = absurd (true≢false (ap (λ (s : Report). s .none) (was-given f _ e .1)))
-    by (lasso u v) (Found z) f e a b =
-        let fits : f ≡ sound = was-given f _ e .0 in
-        let q : _≡_ {A = Report} (record { none = false; numbers = z }) (reportOf (C .reached) (lasso u v)) = was-given f _ e .1 in
-        shows-first refl (ap (λ (s : Report). s .numbers .reached) q)
-        (ap₂ take (ap (λ (s : Report). s .numbers .prefix) q) (a ∙ ap (λ (f : Fault). filled f u (l .opening)) fits) ∙ front u (l .opening))
-        (ap₂ take (ap (λ (s : Report). s .numbers .period) q) (b ∙ ap (λ (f : Fault). filled f v (l .period)) fits) ∙ front v (l .period))
-    by w (Refused r) f e a b = shows-refusal
+    x : (a ≤ length (after .opening)) × (take a (after .opening) ≡ prefixOf w)
+    x = front (prefixOf w) (before .opening) i (o ∙ ap (λ (f : Fault). filled f (prefixOf w) (before .opening)) e)
+
+    y : (b ≤ length (after .period)) × (take b (after .period) ≡ periodOf w)
+    y = front (periodOf w) (before .period) j (p ∙ ap (λ (f : Fault). filled f (periodOf w) (before .period)) e)
+
+-- the witness, by the answer
+pub for-absent : {R : ℕ} (w : Witness) {l : Lent} {r a b : ℕ} → GivenFor R w l true r a b → w ≡ absent
+for-absent absent s = refl
+for-absent (lasso u v) s = absurd (true≢false (s .absence))
+
+pub for-lasso : {R : ℕ} (w : Witness) {l : Lent} {r a b : ℕ} → GivenFor R w l false r a b → w ≡ lasso (take a (l .opening)) (take b (l .period))
+for-lasso absent s = absurd (true≢false (sym (s .absence)))
+for-lasso (lasso u v) s = sym (ap₂ lasso (s .prefix) (s .period))
+
+-- of the answer of a call
+abbrev pub AnswerFor : model.Comparison → Lent → Outcome → Type 0
+AnswerFor C l (Absent z) = GivenFor (C .reached) (C .witness) l true (z .reached) (z .prefix) (z .period)
+AnswerFor C l (Found z) = GivenFor (C .reached) (C .witness) l false (z .reached) (z .prefix) (z .period)
+AnswerFor C l (Refused r) = Unit {0}
+
+-- what an answer that is no refusal says
+pub settled-given : {start : Fault} (C : model.Comparison) {cells : ℕ} {before after : Slices} {r : Outcome} {none : Bool} {z : Comparison} → Settled start C cells before after r
+    → outcomeSays r ≡ given (record { none = none; numbers = z }) → (callFault start C before ≡ sound) × (none ≡ isAbsent (C .witness)) × (z ≡ numbersOf C)
+settled-given {start} C {before = before} S e =
+    let g = was-given (callFault start C before) (answerOf C) (sym e ∙ S .says) in
+    (g .0, ap (λ (x : Answer). x .none) (g .1), ap (λ (x : Answer). x .numbers) (g .1))
+
+pub settled-for : {start : Fault} {C : model.Comparison} {cells : ℕ} {before after : Slices} (r : Outcome) → Settled start C cells before after r → AnswerFor C (calls.lasso after) r
+settled-for {start} {C} {cells} {before} {after} r S = by r S
+  where
+    numbered : {r : Outcome} {none : Bool} {z : Comparison} → Settled start C cells before after r → (callFault start C before ≡ sound) × (none ≡ isAbsent (C .witness)) × (z ≡ numbersOf C)
+        → GivenFor (C .reached) (C .witness) (calls.lasso after) none (z .reached) (z .prefix) (z .period)
+    numbered S (f, n, e) =
+        given-for (C .witness) (calls.lasso before) f n (ap (λ (x : Comparison). x .reached) e) (ap (λ (x : Comparison). x .prefix) e) (ap (λ (x : Comparison). x .period) e) (S .opening) (S .period)
+
+    by : (r : Outcome) → Settled start C cells before after r → AnswerFor C (calls.lasso after) r
+    by (Absent z) S = numbered S (settled-given C S refl)
+    by (Found z) S = numbered S (settled-given C S refl)
+    by (Refused r) S = tt
 
 -- what is settled where the sheets are good is settled
 pub settled-good : {F W : Fault} {C : model.Comparison} {cells : ℕ} {before after : Slices} {r : Outcome} → F ≡ sound → Settled W C cells before after r → Settled (F then W) C cells before after r
@@ -73,33 +111,3 @@ module _ (start : Fault) (C : model.Comparison) (cells : ℕ) (before : Slices) 
     where
       cf : callFault start C before ≡ fault z
       cf = failed _ sf
-
-  abbrev lent : Lent
-  lent = record { opening = before .opening; period = before .period }
-
-  -- answered, or refused after it
-  module _ (sf : start ≡ sound) {P : Fdfa} {o′ p′ : List ℕ} {r : Outcome} (D : Reports P lent (record { opening = o′; period = p′ }) r) (we : D .witness ≡ C .witness) (re : D .reached ≡ C .reached) where
-    cf : callFault start C before ≡ roomFault (C .witness) lent
-    cf = passed _ sf
-
-    says : outcomeSays r ≡ unless (roomFault (C .witness) lent) (reportOf (C .reached) (C .witness))
-    says = D .says ∙ ap₂ (λ (x : Witness) (k : ℕ). unless (roomFault x lent) (reportOf k x)) we re
-
-    after : _≡_ {A = Lent} (record { opening = o′; period = p′ }) (lassoWritten (roomFault (C .witness) lent) (C .witness) lent)
-    after = D .written ∙ ap (λ (x : Witness). lassoWritten (roomFault x lent) x lent) we
-
-    opening : o′ ≡ filled (roomFault (C .witness) lent) (prefixOf (C .witness)) (before .opening)
-    opening = ap (λ (l : Lent). l .opening) after
-
-    period : p′ ≡ filled (roomFault (C .witness) lent) (periodOf (C .witness)) (before .period)
-    period = ap (λ (l : Lent). l .period) after
-
-    pub settled-reports : {front : List ℕ} {m : ℕ} → front ≡ replicate m 0 → m ≡ cells → Settled start C cells before (record { opening = o′; period = p′; work = front ++ drop m (before .work) }) r
-    unfolding written
-    settled-reports fe me = record {
-      says = says ∙ sym (ap (λ (f : Fault). unless f (reportOf (C .reached) (C .witness))) cf);
-      opening = opening ∙ sym (ap (λ (f : Fault). filled f (prefixOf (C .witness)) (before .opening)) cf);
-      period = period ∙ sym (ap (λ (f : Fault). filled f (periodOf (C .witness)) (before .period)) cf);
-      work = ap₂ (λ (x : List ℕ) (k : ℕ). x ++ drop k (before .work)) (fe ∙ ap (λ (k : ℕ). replicate k 0) me) (me ∙ sym (length-replicate {A = ℕ} cells 0))
-          ∙ sym (ap (λ (f : Fault). filled f (replicate cells 0) (before .work)) sf);
-    }

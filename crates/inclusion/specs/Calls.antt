@@ -15,9 +15,10 @@ use Rattle.fdfa.specs.Inclusion.{Counterexample, Accepted, Counts, Reached, Rea
 use Rattle.fdfa.specs.Invariance.{TurnProof}
 use Rattle.packed.specs.Layout.{decode}
 use Rattle.packed.specs.Faults.{sheetFault, pairFault}
-use Rattle.lasso_search.specs.declared.Outcome.{Outcome}
-use Rattle.lasso_search.specs.declared.Outcome.the-variants.{Absent, Found, Refused}
-use Rattle.lasso_search.specs.Lassos.{reportOf, outcomeSays, Lent, roomFault, prefixOf, periodOf}
+use Rattle.lasso_search.specs.Lassos.{Lent, roomFault, prefixOf, periodOf}
+use Rattle.inclusion.specs.declared.Outcome.{Outcome}
+use Rattle.inclusion.specs.declared.Outcome.the-variants.{Absent, Found, Refused}
+use Rattle.inclusion.specs.Outcomes.{answerOf, outcomeSays}
 
 -- The slices that a call is lent.
 pub record Slices : Type 0 where
@@ -36,7 +37,7 @@ callFault start C l = start then roomFault (C .witness) (lasso l)
 -- What a call says and leaves in the lent slices, where `start` is its refusal before the search, C its answer and `cells` what the
 -- search needs: the lasso is written where both parts of it fit, and the cells are 0 from the search on.
 pub record Settled (start : Fault) (C : model.Comparison) (cells : ℕ) (before after : Slices) (r : Outcome) : Type 0 where
-  pub says : outcomeSays r ≡ unless (callFault start C before) (reportOf (C .reached) (C .witness))
+  pub says : outcomeSays r ≡ unless (callFault start C before) (answerOf C)
   pub opening : after .opening ≡ filled (callFault start C before) (prefixOf (C .witness)) (before .opening)
   pub period : after .period ≡ filled (callFault start C before) (periodOf (C .witness)) (before .period)
   pub work : after .work ≡ filled start (replicate cells 0) (before .work)
@@ -93,6 +94,6 @@ pub record Emptied (b : List ℕ) (before after : Slices) (r : Outcome) : Type 0
   pub settles : Settled (emptyStart b (length (before .work))) (emptiness (decode b)) (emptyCells b) before after r
   pub decides : DecidesEmptiness (decode b) (lasso after) r
 
--- Of inner functions, where the sheets are good: the first accepted, normalized lasso of a family.
-abbrev pub Searched : Fdfa → ℕ → Slices → Slices → Outcome → Type 0
-Searched P cells before after r = Settled (cellsFault cells (length (before .work))) (emptiness P) cells before after r
+-- Of inner functions, where the sheets are good: as `Settled`, with 22 alone before the search.
+abbrev pub Searched : model.Comparison → ℕ → Slices → Slices → Outcome → Type 0
+Searched C cells before after r = Settled (cellsFault cells (length (before .work))) C cells before after r

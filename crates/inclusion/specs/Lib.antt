@@ -1,2 +1,4 @@
+pub mod Outcomes
 pub mod Calls
+pub mod Placing
 pub mod Nothing

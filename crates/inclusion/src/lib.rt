@@ -1,24 +1,43 @@
 // Inclusion of two sheets with the first counterexample, and emptiness of one.
-pub use lasso_search::Comparison;
-pub use lasso_search::Outcome;
+mod placing; // placing.rt: what the search found, with where each sheet stands on it
+
 use lasso_search::first_lasso;
 use packed::Sizes;
 use packed::Validity;
 use pairing::PairSizes;
 use pairing::Sized;
+use placing::placed;
 use slices::Part;
+use slices::Refusal;
 use slices::narrow;
 use slices::refuse;
+pub use standing::Standing;
 ghost use mathlib.Core.Path.{_≡_};
 ghost use Rattle.packed.specs.Layout.{Valid, decode};
 ghost use Rattle.packed.specs.Faults.{sizesOf};
 ghost use Rattle.pairing.specs.Pairs as pairs;
 ghost use Rattle.pairing.specs.Pairs.{Alike};
-ghost use Rattle.lasso_search.specs.Lassos.{difference};
+ghost use Rattle.fdfa.specs.Inclusion.{comparison, emptiness};
 ghost use Rattle.inclusion.specs.Calls.{Compared, Emptied, Searched, compareCells, emptyCells};
 
+// R, the lengths of the lasso that was written, and where each sheet stands on it; 0 where there is no lasso or no second sheet.
+pub struct Comparison {
+    pub reached: usize,
+    pub prefix: usize,
+    pub period: usize,
+    pub first: Standing,
+    pub second: Standing,
+}
+
+// What a call says: that there is no such lasso, of whatever length; that it wrote the first one; or the refusal.
+pub enum Outcome {
+    Absent(Comparison),
+    Found(Comparison),
+    Refused(Refusal),
+}
+
 // Whether the first sheet is contained in the second: whether every lasso that is normalized in both and accepted by the
-// first is accepted by the second. Otherwise the first that is not is written.
+// first is accepted by the second. Otherwise the first that is not is written, and the answer says where both sheets stand on it.
 pub fn compare(
     first: &[u8],
     second: &[u8],
@@ -48,7 +67,7 @@ fn search_cells(
     work: &mut [u64],
 ) -> Outcome
     requires { ⌜ Alike (now first) (now second) × (sizes ≡ pairs.sizesOf (now first) (now second)) ⌝ }
-    ensures { λ r. ⌜ Searched (difference (now (first .entry)) (now (second .entry))) (compareCells (now (first .entry)) (now (second .entry)))
+    ensures { λ r. ⌜ Searched (comparison (decode (now (first .entry))) (decode (now (second .entry)))) (compareCells (now (first .entry)) (now (second .entry)))
         (record { opening = now (opening .entry); period = now (period .entry); work = now (work .entry) })
         (record { opening = now (opening .exit); period = now (period .exit); work = now (work .exit) })
         r ⌝ }
@@ -58,10 +77,12 @@ fn search_cells(
     if lent < cells {
         return Outcome::Refused(refuse(22, Part::Work, cells));
     }
-    first_lasso(first, second, sizes, opening, period, &mut work[..cells])
+    let found = first_lasso(first, second, sizes, opening, period, &mut work[..cells]);
+    placed(first, second, found, opening, period)
 }
 
-// The first accepted, normalized lasso: emptiness as inclusion in the family with one state everywhere that accepts nothing.
+// The first accepted, normalized lasso: emptiness as inclusion in the family with one state everywhere that accepts nothing, and that
+// stands at 0 on every lasso.
 fn accepted_lasso(
     sheet: &[u8],
     sizes: Sizes,
@@ -70,7 +91,7 @@ fn accepted_lasso(
     work: &mut [u64],
 ) -> Outcome
     requires { ⌜ Valid (now sheet) × (sizes ≡ sizesOf (now sheet)) ⌝ }
-    ensures { λ r. ⌜ Searched (decode (now (sheet .entry))) (emptyCells (now (sheet .entry)))
+    ensures { λ r. ⌜ Searched (emptiness (decode (now (sheet .entry)))) (emptyCells (now (sheet .entry)))
         (record { opening = now (opening .entry); period = now (period .entry); work = now (work .entry) })
         (record { opening = now (opening .exit); period = now (period .exit); work = now (work .exit) })
         r ⌝ }

@@ -22,7 +22,7 @@ use Rattle.pairing.specs.declared.Beside.{Beside}
 use Rattle.pairing.specs.declared.PairSizes.{PairSizes}
 use Rattle.pairing.specs.Pairs.{Alike, leadsOf, progressOf, marksOf, nextPair, sizesOf, Steps}
 use Rattle.pairing.proofs.Within.{few-pairs, few-widest, progress-steps, marks-read}
-use Rattle.lasso_search.specs.Lassos.{difference}
+use Rattle.lasso_search.specs.Reporting.{difference}
 use Rattle.lasso_search.specs.Codes.{Tabulated, EndReads, endsAt, Room, CanFind}
 
 -- what a table that was written has

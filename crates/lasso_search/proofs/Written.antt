@@ -21,9 +21,10 @@ use Rattle.search.specs.Words.{Word, letters}
 use Rattle.search.specs.Paths.{Deep, Filled}
 use Rattle.search.proofs.Letters.{length-letters}
 use Rattle.search.proofs.ReadBack.{path-one}
-use Rattle.lasso_search.specs.declared.Outcome.{Outcome}
-use Rattle.lasso_search.specs.declared.Outcome.the-variants.{Absent, Found, Refused}
-use Rattle.lasso_search.specs.Lassos.{Report, reportOf, outcomeSays, Lent, roomFault, lassoWritten, Reports}
+use Rattle.lasso_search.specs.declared.Reported.{Reported}
+use Rattle.lasso_search.specs.declared.Reported.the-variants.{Absent, Found, Refused}
+use Rattle.lasso_search.specs.Lassos.{Lent, roomFault, lassoWritten}
+use Rattle.lasso_search.specs.Reporting.{Report, reportOf, reportedSays, Reports}
 use Rattle.lasso_search.specs.Codes.{FirstAt, CanTell, Tells}
 use Rattle.lasso_search.proofs.Lassos.{first-letters}
 use Rattle.lasso_search.proofs.Rounds.{tail-is}
@@ -63,7 +64,7 @@ module _ (n : ℕ) (work : List ℕ) (i h reached ul vl : ℕ) (lent : Lent) (du
     v = v;
     u-path = du .path;
     v-path = dv .path;
-    says = ap (λ (x : Refusal). outcomeSays (Refused x)) re ∙ refuses _ fe;
+    says = ap (λ (x : Refusal). reportedSays (Refused x)) re ∙ refuses _ fe;
     written = sym (ap (λ (f : Fault). lassoWritten f (lasso (letters u) (letters v)) lent) fe);
   }
 
@@ -117,14 +118,14 @@ module _ (P : Fdfa) {reached : ℕ} (counted : Counts (Reached (P .letters) (P .
     written = λ j. record { opening = written-none (lent .opening) j; period = written-none (lent .period) j };
   }
 
-  pub reports-first : {n : ℕ} {work : List ℕ} {i h : ℕ} → FirstAt (λ u v. Accepted P (letters u) (letters v)) n work i h → n ≤ length work → {after : Lent} {r : Outcome} (m : ℕ) → m ≡ n → Tells (m - 1) work i h reached lent after r
+  pub reports-first : {n : ℕ} {work : List ℕ} {i h : ℕ} → FirstAt (λ u v. Accepted P (letters u) (letters v)) n work i h → n ≤ length work → {after : Lent} {r : Reported} (m : ℕ) → m ≡ n → Tells (m - 1) work i h reached lent after r
       → Reports P lent after r
   reports-first {n} {work} {i} {h} A fits {after} {r} m e T₀ = record {
     reached = reached;
     witness = lasso (letters (A .u)) (letters (A .v));
     counted = counted;
     answers = first-is (first-letters (A .first));
-    says = subst₂ (λ (u v : Word). outcomeSays r ≡ unless (roomFault (lasso (letters u) (letters v)) lent) (reportOf reached (lasso (letters u) (letters v)))) eu ev (T .says);
+    says = subst₂ (λ (u v : Word). reportedSays r ≡ unless (roomFault (lasso (letters u) (letters v)) lent) (reportOf reached (lasso (letters u) (letters v)))) eu ev (T .says);
     written = subst₂ (λ (u v : Word). after ≡ lassoWritten (roomFault (lasso (letters u) (letters v)) lent) (lasso (letters u) (letters v)) lent) eu ev (T .written);
   }
     where

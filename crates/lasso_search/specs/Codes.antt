@@ -17,8 +17,9 @@ use Rattle.search.specs.Paths.{Path, Readable}
 use Rattle.search.specs.Search.{rowStep}
 use Rattle.fdfa.specs.Enumeration.{lasso}
 use Rattle.slices.specs.Refusals.{unless}
-use Rattle.lasso_search.specs.Lassos.{difference, reportOf, outcomeSays, Lent, roomFault, lassoWritten}
-use Rattle.lasso_search.specs.declared.Outcome.{Outcome}
+use Rattle.lasso_search.specs.Lassos.{Lent, roomFault, lassoWritten}
+use Rattle.lasso_search.specs.Reporting.{difference, reportOf, reportedSays}
+use Rattle.lasso_search.specs.declared.Reported.{Reported}
 use Rattle.lasso_search.specs.declared.Candidate.{Candidate}
 use Rattle.lasso_search.specs.declared.Codes.{Codes}
 use Rattle.lasso_search.specs.declared.Codes.the-variants.{Absent, Found}
@@ -146,10 +147,10 @@ pub record CanTell (front : ℕ) (work : List ℕ) (i h : ℕ) : Type 0 where
   pub period : Readable (take (length work - front) (drop front work)) h
 
 -- What is said and written of the words u and v that the codes have.
-pub record Tells (front : ℕ) (work : List ℕ) (i h reached : ℕ) (before after : Lent) (r : Outcome) : Type 0 where
+pub record Tells (front : ℕ) (work : List ℕ) (i h reached : ℕ) (before after : Lent) (r : Reported) : Type 0 where
   pub u : Word
   pub v : Word
   pub u-path : Path (take front work) i u
   pub v-path : Path (take (length work - front) (drop front work)) h v
-  pub says : outcomeSays r ≡ unless (roomFault (lasso (letters u) (letters v)) before) (reportOf reached (lasso (letters u) (letters v)))
+  pub says : reportedSays r ≡ unless (roomFault (lasso (letters u) (letters v)) before) (reportOf reached (lasso (letters u) (letters v)))
   pub written : after ≡ lassoWritten (roomFault (lasso (letters u) (letters v)) before) (lasso (letters u) (letters v)) before

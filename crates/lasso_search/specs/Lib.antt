@@ -1,2 +1,3 @@
 pub mod Lassos
+pub mod Reporting
 pub mod Codes

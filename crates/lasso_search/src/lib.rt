@@ -12,19 +12,19 @@ ghost use mathlib.Core.Path.{_≡_};
 ghost use Prim.Native.Nat.{_+_, _*_};
 ghost use lib.ListN.{length, replicate};
 ghost use Rattle.pairing.specs.Pairs.{Alike, sizesOf};
-ghost use Rattle.lasso_search.specs.Lassos.{difference, Reports};
+ghost use Rattle.lasso_search.specs.Reporting.{difference, Reports};
 
 // R, and the lengths of the lasso that was written, 0 where there is none.
-pub struct Comparison {
+pub struct Finding {
     pub reached: usize,
     pub prefix: usize,
     pub period: usize,
 }
 
-// What a call says: that there is no such lasso, of whatever length; that it wrote the first one; or the refusal.
-pub enum Outcome {
-    Absent(Comparison),
-    Found(Comparison),
+// What the search says: that there is no such lasso, of whatever length; that it wrote the first one; or the refusal.
+pub enum Reported {
+    Absent(Finding),
+    Found(Finding),
     Refused(Refusal),
 }
 
@@ -49,7 +49,7 @@ pub fn first_lasso(
     opening: &mut [u8],
     period: &mut [u8],
     work: &mut [u64],
-) -> Outcome
+) -> Reported
     requires { ⌜ Alike (now first) (now second) × (sizes ≡ sizesOf (now first) (now second)) × (length (now work) ≡ sizes .pairs + sizes .pairs * sizes .widest) ⌝ }
     ensures reports { λ r. ⌜ Reports (difference (now (first .entry)) (now (second .entry)))
         (record { opening = now (opening .entry); period = now (period .entry) })
@@ -62,16 +62,16 @@ pub fn first_lasso(
     match found {
         Codes::Absent(reached) => {
             search::clear(work);
-            Outcome::Absent(Comparison {
+            Reported::Absent(Finding {
                 reached,
                 prefix: 0,
                 period: 0,
             })
         }
         Codes::Found(reached, i, h) => {
-            let outcome = tell(reached, i, h, n - 1, work, opening, period);
+            let reported = tell(reached, i, h, n - 1, work, opening, period);
             search::clear(work);
-            outcome
+            reported
         }
     }
 }

@@ -11,7 +11,7 @@ ghost use Prim.Native.Nat.{ℕ, _+_, _-_, _*_, _≤_, _<_};
 ghost use lib.ListN.{length, take};
 ghost use Rattle.search.specs.Words.{Word, ε, run, Over};
 ghost use Rattle.pairing.specs.Pairs.{Alike, leadsOf, sizesOf};
-ghost use Rattle.lasso_search.specs.Lassos.{difference};
+ghost use Rattle.lasso_search.specs.Reporting.{difference};
 ghost use Rattle.lasso_search.specs.Codes.{Tabulated, Fresh, Leads, Room, Round, Prepared, Next, CanFind, Started, Located};
 
 // Searches the leading states alone, the progress standing still; the number of those reached.

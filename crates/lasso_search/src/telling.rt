@@ -1,6 +1,6 @@
 // The lasso that was found, written where it fits.
-use crate::Comparison;
-use crate::Outcome;
+use crate::Finding;
+use crate::Reported;
 use slices::Part;
 use slices::refuse;
 ghost use Rattle.lasso_search.specs.Codes.{CanTell, Tells};
@@ -14,7 +14,7 @@ pub fn tell(
     work: &[u64],
     opening: &mut [u8],
     period: &mut [u8],
-) -> Outcome
+) -> Reported
     requires { ⌜ CanTell front (now work) i h ⌝ }
     ensures { λ r. ⌜ Tells front (now (work .entry)) i h reached
         (record { opening = now (opening .entry); period = now (period .entry) })
@@ -24,14 +24,14 @@ pub fn tell(
     let u = search::depth(&work[..front], i);
     let v = search::depth(&work[front..], h);
     if opening.len() < u {
-        return Outcome::Refused(refuse(23, Part::Opening, u));
+        return Reported::Refused(refuse(23, Part::Opening, u));
     }
     if period.len() < v {
-        return Outcome::Refused(refuse(23, Part::Loop, v));
+        return Reported::Refused(refuse(23, Part::Loop, v));
     }
     search::fill(&work[..front], i, u, opening);
     search::fill(&work[front..], h, v, period);
-    Outcome::Found(Comparison {
+    Reported::Found(Finding {
         reached,
         prefix: u,
         period: v,

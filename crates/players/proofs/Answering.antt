@@ -8,9 +8,10 @@ use borrow.Author.Tests.{lt-ltb, le-ltb}
 use Rattle.slices.specs.Refusals.{Fault, _then_, Result, unless}
 use Rattle.slices.specs.Filling.{written, filled}
 use Rattle.packed.specs.Layout.{decode}
-use Rattle.lasso_search.specs.declared.Outcome.{Outcome}
-use Rattle.lasso_search.specs.declared.Outcome.the-variants.{Absent, Found, Refused}
-use Rattle.lasso_search.specs.Lassos.{Report, reportOf, outcomeSays, roomFault, prefixOf, periodOf}
+use Rattle.lasso_search.specs.Lassos.{roomFault, prefixOf, periodOf}
+use Rattle.inclusion.specs.declared.Outcome.{Outcome}
+use Rattle.inclusion.specs.declared.Outcome.the-variants.{Absent, Found, Refused}
+use Rattle.inclusion.specs.Outcomes.{Answer, answerOf, outcomeSays}
 use Rattle.inclusion.specs.Calls as inclusion
 use Rattle.inclusion.specs.Calls.{compareStart, DecidesInclusion}
 use Rattle.players.specs.Layout.{layout, compareNumbers, unlessShort, Told}
@@ -48,7 +49,7 @@ module _ {b c : List ℕ} {before : AnswerSlices} where
       → after .answer ≡ written (layout (compareNumbers (outcomeSays a))) (before .answer)
       → ComparisonTold b c before after 1
   compared-long {after} {work} {work′} a h w K e = record {
-    tells = told-long 72 _ (before .answer) h (e ∙ ap (λ (x : Result Report). written (layout (compareNumbers x)) (before .answer)) said);
+    tells = told-long 72 _ (before .answer) h (e ∙ ap (λ (x : Result Answer). written (layout (compareNumbers x)) (before .answer)) said);
     opening = K .settles .opening ∙ (ap (λ (n : ℕ). filled (fault-of n) (prefixOf (answer b c .witness)) (before .opening)) w ∙ long-new 72 (before .answer) (before .opening) _ h);
     period = K .settles .period ∙ (ap (λ (n : ℕ). filled (fault-of n) (periodOf (answer b c .witness)) (before .period)) w ∙ long-new 72 (before .answer) (before .period) _ h);
     decides = λ _. subst (DecidesInclusion (decode b) (decode c) (lent after)) (sym (outcome-known a) ∙ ap outcomeOf said) (K .decides);
@@ -58,4 +59,4 @@ module _ {b c : List ℕ} {before : AnswerSlices} where
       fault-of n = compareStart b c n then roomFault (answer b c .witness) (lent before)
 
       said : outcomeSays a ≡ compared b c before
-      said = K .settles .says ∙ ap (λ (n : ℕ). unless (fault-of n) (reportOf (answer b c .reached) (answer b c .witness))) w
+      said = K .settles .says ∙ ap (λ (n : ℕ). unless (fault-of n) (answerOf (answer b c))) w

@@ -9,9 +9,10 @@ use Rattle.fdfa.specs.Inclusion as model
 use Rattle.slices.specs.Refusals.{Fault, _then_, Result, given, refused, unless}
 use Rattle.slices.specs.Filling.{filled}
 use Rattle.packed.specs.Layout.{decode}
-use Rattle.lasso_search.specs.declared.Outcome.{Outcome}
-use Rattle.lasso_search.specs.declared.Outcome.the-variants.{Absent, Found, Refused}
-use Rattle.lasso_search.specs.Lassos.{Report, reportOf, Lent, roomFault, prefixOf, periodOf}
+use Rattle.lasso_search.specs.Lassos.{Lent, roomFault, prefixOf, periodOf}
+use Rattle.inclusion.specs.declared.Outcome.{Outcome}
+use Rattle.inclusion.specs.declared.Outcome.the-variants.{Absent, Found, Refused}
+use Rattle.inclusion.specs.Outcomes.{Answer, answerOf}
 use Rattle.inclusion.specs.Calls.{compareStart, DecidesInclusion}
 use Rattle.players.specs.Layout.{compareNumbers, unlessShort, Told}
 
@@ -31,14 +32,14 @@ answer b c = model.comparison (decode b) (decode c)
 abbrev pub compareFault : List ℕ → List ℕ → AnswerSlices → Fault
 compareFault b c l = compareStart b c 8192 then roomFault (answer b c .witness) (lent l)
 
-abbrev pub compared : List ℕ → List ℕ → AnswerSlices → Result Report
-compared b c l = unless (compareFault b c l) (reportOf (answer b c .reached) (answer b c .witness))
+abbrev pub compared : List ℕ → List ℕ → AnswerSlices → Result Answer
+compared b c l = unless (compareFault b c l) (answerOf (answer b c))
 
 -- The outcome that says so, as the third demand (`DecidesInclusion`) speaks of it.
-abbrev pub outcomeOf : Result Report → Outcome
+abbrev pub outcomeOf : Result Answer → Outcome
 outcomeOf (given s) = outcomeGiven (s .none) s
   where
-    outcomeGiven : Bool → Report → Outcome
+    outcomeGiven : Bool → Answer → Outcome
     outcomeGiven true s = Absent (s .numbers)
     outcomeGiven false s = Found (s .numbers)
 outcomeOf (refused r) = Refused r

@@ -12,8 +12,8 @@ use Rattle.slices.specs.Refusals.{Result, given, refused}
 use Rattle.slices.specs.Filling.{written}
 use Rattle.slices.specs.Tables.{tab, rows}
 use Rattle.packed.specs.Layout.{mark}
-use Rattle.lasso_search.specs.declared.Comparison.{Comparison}
-use Rattle.lasso_search.specs.Lassos.{Report}
+use Rattle.inclusion.specs.declared.Comparison.{Comparison}
+use Rattle.inclusion.specs.Outcomes.{Answer}
 
 abbrev pub numberBytes : ℕ → List ℕ
 numberBytes x = tab 8 (λ i. x / 256 ^ i % 256)
@@ -35,11 +35,13 @@ abbrev pub verdictNumbers : Result Verdict → List ℕ
 verdictNumbers (given v) = 0 ∷ mark (v .accepted) ∷ v .i ∷ v .j ∷ v .state ∷ v .end ∷ []
 verdictNumbers (refused r) = r .number ∷ partNumber (r .part) ∷ r .place ∷ 0 ∷ 0 ∷ 0 ∷ []
 
--- 0, contained 0 or missing 1, R, the lengths of opening and loop, four zeros; or number, part, place of the refusal.
+-- 0, contained 0 or missing 1, R, the lengths of opening and loop, where the first sheet waits and ends, and where the second does; or
+-- number, part, place of the refusal.
 abbrev pub givenNumbers : ℕ → Comparison → List ℕ
-givenNumbers missing c = 0 ∷ missing ∷ c .reached ∷ c .prefix ∷ c .period ∷ 0 ∷ 0 ∷ 0 ∷ 0 ∷ []
+givenNumbers missing c =
+    0 ∷ missing ∷ c .reached ∷ c .prefix ∷ c .period ∷ c .first .waits ∷ c .first .ends ∷ c .second .waits ∷ c .second .ends ∷ []
 
-abbrev pub compareNumbers : Result Report → List ℕ
+abbrev pub compareNumbers : Result Answer → List ℕ
 compareNumbers (given s) = givenNumbers (cond (s .none) 0 1) (s .numbers)
 compareNumbers (refused r) = r .number ∷ partNumber (r .part) ∷ r .place ∷ 0 ∷ 0 ∷ 0 ∷ 0 ∷ 0 ∷ 0 ∷ []
 

@@ -8,7 +8,7 @@ ghost use Prim.Native.Nat.{_*_, _≤_};
 ghost use lib.ListN.{length};
 ghost use Rattle.slices.specs.Filling.{written};
 ghost use Rattle.membership.specs.Verdict.{verdictOf, saysOf as judgementSays};
-ghost use Rattle.lasso_search.specs.Lassos.{outcomeSays};
+ghost use Rattle.inclusion.specs.Outcomes.{outcomeSays};
 ghost use Rattle.players.specs.Layout.{partNumber, numberBytes, layout, verdictNumbers, givenNumbers, compareNumbers, Told};
 ghost use Rattle.players.specs.Calls.{ComparisonTold};
 
@@ -60,16 +60,18 @@ fn verdict_numbers(judgement: Judgement) -> [u64; 6]
 fn given_numbers(missing: u64, c: Comparison) -> [u64; 9]
     ensures { λ r. ⌜ r ≡ givenNumbers missing c ⌝ }
 {
+    let p = c.first;
+    let q = c.second;
     [
         0,
         missing,
         c.reached as u64,
         c.prefix as u64,
         c.period as u64,
-        0,
-        0,
-        0,
-        0,
+        p.waits as u64,
+        p.ends as u64,
+        q.waits as u64,
+        q.ends as u64,
     ]
 }
 

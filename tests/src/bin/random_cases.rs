@@ -6,12 +6,14 @@
 //! random_cases --touch AT               reads a byte at AT from the start of a slice of 8 bytes between two inaccessible pages
 
 use outside::case::Case;
-use outside::check::{Checker, Damage};
+use outside::check::{Checker, Damage, Outcome, WrongStandings};
 use outside::crash;
 use outside::guarded::{Placement, Region};
+use outside::inclusion::Inclusion;
 use outside::random::Random;
 use outside::rows::rows;
 use outside::tally::Tally;
+use std::collections::BTreeMap;
 use std::process::{Command, ExitCode};
 use std::time::Instant;
 
@@ -102,33 +104,56 @@ fn describe(case: &Case) -> String {
 
 fn self_test() -> Result<(), String> {
     const CASES: usize = 400;
+    const LEAST: usize = 10;
     let mut checker = Checker::default();
     let mut seeds = Random::new(SEED);
     let mut found = 0;
+    let mut standings: BTreeMap<(WrongStandings, &str), usize> = BTreeMap::new();
     for _ in 0..CASES {
         let seed = seeds.draw();
         let case = Case::random(seed, &mut checker.search);
-        checker.check(&case).map_err(|fault| format!("seed {seed}: {fault}"))?;
+        let outcome = checker.check(&case).map_err(|fault| format!("seed {seed}: {fault}"))?;
         for damage in damages(&case) {
             match checker.check_damaged(&case, damage) {
-                Some(true) => found += 1,
+                Some(true) => {
+                    found += 1;
+                    if let Damage::Standings(wrong) = damage {
+                        *standings.entry((wrong, named(outcome))).or_default() += 1;
+                    }
+                }
                 Some(false) => return Err(format!("seed {seed}: {damage:?} was not found")),
                 None => {}
             }
         }
         checker.sweep()?;
     }
-    println!("{CASES} cases, {found} damages, all found");
-    if found > CASES {
+    println!("{CASES} cases, {found} damages, all found; of waits and ends {standings:?}");
+    // Where there is no counterexample the four numbers are 0: exchanged, they are the same.
+    let of = |wrong| if wrong == WrongStandings::Exchanged { &OUTCOMES[..1] } else { &OUTCOMES[..] };
+    let due = WrongStandings::ALL.into_iter().flat_map(|wrong| of(wrong).iter().map(move |&outcome| (wrong, outcome)));
+    let lacking: Vec<_> = due.filter(|key| standings.get(key).is_none_or(|&count| count < LEAST)).collect();
+    if found > CASES && lacking.is_empty() {
         Ok(())
     } else {
-        Err("too few damages were tried".to_string())
+        Err(format!("too few damages were tried: {lacking:?}"))
     }
 }
 
-/// The returned number; each byte of a short slice, some of a long one; the canaries beside it.
+/// What becomes of a comparison that fills its answer slice.
+const OUTCOMES: [&str; 3] = ["missing", "contained", "refused"];
+
+fn named(outcome: Outcome) -> &'static str {
+    match outcome {
+        Outcome::Inclusion(Inclusion::Missing { .. }) => OUTCOMES[0],
+        Outcome::Inclusion(Inclusion::Contained { .. }) => OUTCOMES[1],
+        _ => OUTCOMES[2],
+    }
+}
+
+/// The returned number; waits and ends; each byte of a short slice, some of a long one; the canaries beside it.
 fn damages(case: &Case) -> Vec<Damage> {
     let mut damages = vec![Damage::Returned];
+    damages.extend(WrongStandings::ALL.map(Damage::Standings));
     for (index, slice) in case.slices.iter().enumerate() {
         let length = slice.len() as isize;
         let step = (length / 16).max(1) as usize;

@@ -1,7 +1,7 @@
 //! How often each outcome of each call is met.
 
 use crate::driver::calls::{Call, CALLS};
-use std::collections::BTreeMap;
+use std::collections::{BTreeMap, BTreeSet};
 use std::fmt;
 
 /// Where a line counts that names no call.
@@ -11,6 +11,8 @@ const COMMENT: &str = "comment";
 /// Added to an outcome where a lent slice is exactly as long as needed, or one cell too short.
 const JUST_ENOUGH: &str = ", just enough room";
 const ONE_TOO_FEW: &str = ", one cell too few";
+/// Added to an outcome where the lasso found takes the sheets to states that are all above 0 and no two alike.
+const APART: &str = ", waits and ends above 0, no two alike";
 
 #[derive(Default)]
 pub struct Coverage {
@@ -30,8 +32,9 @@ impl Coverage {
             Some(call) => match outcome(call, &due) {
                 Some(outcome) => {
                     self.count(call.name, outcome);
-                    if let Some(room) = room(call, &due).filter(|_| needs_room(outcome)) {
-                        self.count(call.name, &format!("{outcome}{room}"));
+                    let room = room(call, &due).filter(|_| needs_room(outcome));
+                    for more in room.into_iter().chain(apart(&due)) {
+                        self.count(call.name, &format!("{outcome}{more}"));
                     }
                 }
                 None => self.unlisted.push(format!("{}: {due}", call.name)),
@@ -53,6 +56,9 @@ impl Coverage {
                 if needs_room(outcome) {
                     let room = if outcome.starts_with("refused") { ONE_TOO_FEW } else { JUST_ENOUGH };
                     due.push((call.name, format!("{outcome}{room}")));
+                }
+                if ["missing", "found"].contains(&outcome) {
+                    due.push((call.name, format!("{outcome}{APART}")));
                 }
             }
         }
@@ -90,6 +96,18 @@ fn room(call: &Call, due: &str) -> Option<&'static str> {
         "missing" | "found" => ((lengths[0], lengths[1]) == (number(2)?, number(3)?)).then_some(JUST_ENOUGH),
         _ => None,
     }
+}
+
+/// Whether waits and ends, of both sheets or of the only one, are above 0 and no two alike.
+fn apart(due: &str) -> Option<&'static str> {
+    let words: Vec<&str> = due.split(' ').collect();
+    let standings = match words[0] {
+        "missing" => &words[4..8],
+        "found" => &words[4..6],
+        _ => return None,
+    };
+    let with_zero: BTreeSet<&str> = standings.iter().copied().chain(["0"]).collect();
+    (with_zero.len() == standings.len() + 1).then_some(APART)
 }
 
 /// How many cells a printed slice has.

@@ -1,7 +1,8 @@
 //! Damages to an answer line, field by field: the comparison must find each.
 
-/// Each kind of field that can be damaged.
-pub const KINDS: [&str; 6] = ["number", "place", "cell", "run", "word", "space"];
+/// Each kind of field that can be damaged; and waits and ends together: the two sheets' exchanged, or left over from another answer.
+pub const KINDS: [&str; 10] =
+    ["number", "waits", "ends", "place", "cell", "run", "word", "space", "exchanged", "left-over"];
 
 /// All damages to a line, with their kinds.
 pub fn damages(line: &[u8]) -> Vec<(&'static str, Vec<u8>)> {
@@ -21,7 +22,28 @@ pub fn damages(line: &[u8]) -> Vec<(&'static str, Vec<u8>)> {
         }
     }
     damages.push(("space", format!("{text} ").into_bytes()));
+    damages.extend(other_standings(&words));
     damages
+}
+
+/// The four numbers after the lengths, changed together. They are 0 where there is no lasso, the second sheet's also where there is
+/// no such sheet, and a refusal has none.
+fn other_standings(words: &[&str]) -> Vec<(&'static str, Vec<u8>)> {
+    let &[outcome, _, _, _, waits1, ends1, waits2, ends2, ..] = words else { return Vec::new() };
+    let with = |standings: [&str; 4], rest: usize| [&words[..4], &standings, &words[rest..]].concat().join(" ");
+    let mut damages = Vec::new();
+    match outcome {
+        "missing" | "found" if (waits1, ends1) != (waits2, ends2) => {
+            damages.push(("exchanged", with([waits2, ends2, waits1, ends1], 8)));
+        }
+        "contained" | "empty" => damages.push(("left-over", with(["2", "1", "3", "4"], 8))),
+        "refused" => damages.push(("left-over", with(["2", "1", "3", "4"], 4))),
+        _ => {}
+    }
+    if outcome == "found" {
+        damages.push(("left-over", with([waits1, ends1, "3", "4"], 8)));
+    }
+    damages.into_iter().map(|(kind, line)| (kind, line.into_bytes())).collect()
 }
 
 /// What may stand wrongly in the place of a word, by what the word is.
@@ -34,7 +56,12 @@ fn other_words(words: &[&str], at: usize) -> Vec<(&'static str, String)> {
     }
     match word.parse::<u64>() {
         Ok(number) => {
-            let kind = if words[0] == "refused" && at == 3 { "place" } else { "number" };
+            let kind = match (words[0], at) {
+                ("refused", 3) => "place",
+                ("missing" | "contained" | "found" | "empty", 4 | 6) => "waits",
+                ("missing" | "contained" | "found" | "empty", 5 | 7) => "ends",
+                _ => "number",
+            };
             vec![(kind, (number ^ 1).to_string()), (kind, format!("{word}0")), (kind, format!("0{word}"))]
         }
         Err(_) => vec![("word", format!("{word}s")), ("word", "other".to_string())],

@@ -10,12 +10,16 @@ use crate::inclusion::{cells_needed, Inclusion, Search};
 use crate::mix::{of_sizes, sheet_pair};
 use crate::random::Random;
 use crate::sheet::{Part, Refusal, Sheet, MOST};
+use crate::standing::Standing;
 
 pub fn compare(words: &[&[u8]], search: &mut Search) -> Result<String, NoCall> {
     let (work, words) = words.split_last().ok_or(NoCall::Wrong)?;
     let [first, second, mut prefix, mut period] = byte_slices(words)?;
     let mut work = slice::<u64>(work)?;
     let result = search.compare_within(work.len(), &first, &second, &mut prefix, &mut period);
+    if let Ok(found) = result {
+        found.assert_walked([&first, &second], &prefix, &period);
+    }
     clear(&mut work, &result, &first, &second);
     let answer = answer(result, "contained", "missing");
     Ok(format!("{answer} | {} {} {}", print(&prefix), print(&period), print(&work)))
@@ -26,6 +30,9 @@ pub fn emptiness(words: &[&[u8]], search: &mut Search) -> Result<String, NoCall>
     let [sheet, mut prefix, mut period] = byte_slices(words)?;
     let mut work = slice::<u64>(work)?;
     let result = first_accepted(search, work.len(), &sheet, &mut prefix, &mut period);
+    if let Ok(found) = result {
+        found.assert_walked([&sheet, &nothing(sheet[0] as usize)], &prefix, &period);
+    }
     clear(&mut work, &result, &sheet, &nothing(1));
     let answer = answer(result, "empty", "found");
     Ok(format!("{answer} | {} {} {}", print(&prefix), print(&period), print(&work)))
@@ -33,8 +40,11 @@ pub fn emptiness(words: &[&[u8]], search: &mut Search) -> Result<String, NoCall>
 
 fn answer(result: Result<Inclusion, Refusal>, absent: &str, found: &str) -> String {
     match result {
-        Ok(Inclusion::Contained { reached }) => format!("{absent} {reached} 0 0"),
-        Ok(Inclusion::Missing { reached, prefix, period }) => format!("{found} {reached} {prefix} {period}"),
+        Ok(Inclusion::Contained { reached }) => format!("{absent} {reached} 0 0 0 0 0 0"),
+        Ok(Inclusion::Missing { reached, prefix, period, standings }) => {
+            let [first, second] = standings.map(|Standing { waits, ends }| format!("{waits} {ends}"));
+            format!("{found} {reached} {prefix} {period} {first} {second}")
+        }
         Err(refusal) => refused(refusal),
     }
 }

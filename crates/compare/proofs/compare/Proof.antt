@@ -32,17 +32,17 @@ slice-aggregate-comparison-text-2 : tie.Need-slice-aggregate-comparison-text-2
 slice-aggregate-comparison-text-2 c = search needs
 
 slice-aggregate-comparison-text-3 : tie.Need-slice-aggregate-comparison-text-3
-slice-aggregate-comparison-text-3 c = sym (length-replicate {A = ℕ} 237681 0)
+slice-aggregate-comparison-text-3 c = sym (length-replicate {A = ℕ} 237776 0)
 
 comparison-text-requires : tie.Need-comparison-text-requires
 comparison-text-requires c κs =
     let e = c .before .before .before .before .before .before .compare in
     let o = e .kept .1 .1 .0 in
     let p = e .kept .1 .1 .1 .0 in (
-      lies (e .result) (length (e .last .1 .1 .0)) (length (e .last .1 .1 .1 .0)) (omega (arith, o)) (omega (arith, p)) (e .ensures .settles),
+      lies (e .result) (e .ensures .settles),
       omega (arith, o),
       omega (arith, p),
-      omega (arith, length-replicate {A = ℕ} 237681 0),
+      omega (arith, length-replicate {A = ℕ} 237776 0),
     )
 
 array-share-prefix-text : tie.Need-array-share-prefix-text

@@ -85,7 +85,7 @@ returns-2 : tie.Need-returns-2
 returns-2 c =
     let f = c .before .before .before .before .before .before in
     let m = f .before .before .before .before .before in
-    searched-compared _ (alike m) (sized m .0) (f .search-cells .ensures)
+    searched-compared (alike m) _ (sized m .0) (f .search-cells .ensures)
 
 pub compare-spec : {M : Type 1} → statement M
 compare-spec =

@@ -7,16 +7,14 @@ use native.Mathlib.Nat.{mul-le-mul}
 use denote.Ref.{now}
 use lib.ListN.{length, replicate}
 use lib.Seq.{length-take-le}
-use Rattle.fdfa.specs.Family.{Fdfa}
-use Rattle.fdfa.specs.Inclusion.{Comparison, emptiness}
-use Rattle.fdfa.proofs.Emptiness.{answers-unique, emptiness-answers}
-use Rattle.fdfa.proofs.Reach.{counts-unique, reached-states}
+use Rattle.fdfa.specs.Inclusion.{Comparison, comparison}
+use Rattle.packed.specs.Layout.{decode}
 use Rattle.pairing.specs.declared.PairSizes.{PairSizes}
 use Rattle.pairing.proofs.Within.{few-pairs, few-widest}
-use Rattle.lasso_search.specs.Lassos.{difference}
-use Rattle.lasso_search.proofs.Difference.{complete}
 use Rattle.inclusion.specs.Calls.{Slices, cellsFault, compareCells}
-use Rattle.inclusion.proofs.Settling.{cells-refused, cells-suffice, settled-refused, settled-reports}
+use Rattle.inclusion.proofs.Settling.{cells-refused, cells-suffice, settled-refused}
+use Rattle.inclusion.proofs.Answered.{reports-lies}
+use Rattle.inclusion.proofs.Comparing.{reports-searched}
 use borrow.Author.Needs.{needs}
 use Rattle.inclusion.proofs.search_cells.Statement.{statement}
 use Rattle.inclusion.proofs.search_cells.Tie as tie
@@ -32,11 +30,8 @@ module _ (s : tie.Start) where
   abbrev before : Slices
   before = record { opening = now (s .args .opening); period = now (s .args .period); work = now (s .args .work) }
 
-  abbrev P : Fdfa
-  P = difference b d
-
   abbrev C : Comparison
-  C = emptiness P
+  C = comparison (decode b) (decode d)
 
   abbrev z : PairSizes
   z = s .args .sizes
@@ -80,6 +75,11 @@ first-lasso-requires c κs =
     let e = c .before .before .before in
     let s = start (e .before) in (s .pre .0, s .pre .1, length-take-le _ _ (e .if1 .left))
 
+placed-requires : tie.Need-placed-requires
+placed-requires c κs =
+    let f = c .before .before .before .before .before .before .before .before in
+    (start (f .before .before .before .before .before) .pre .0, reports-lies (f .first-lasso .result) (f .first-lasso .ensures .0))
+
 same-length : tie.Need-same-length
 same-length c = search needs
 
@@ -91,16 +91,10 @@ same-length-3 c = search needs
 
 returns-2 : tie.Need-returns-2
 returns-2 c =
-    let f = c .before .before .before .before .before .before in
+    let f = c .before .before .before .before .before .before .before .before .before in
     let e = f .before .before .before .before in
     let s = start (e .before) in
-    let CP = complete (s .pre .0) in
-    let D = f .first-lasso .ensures .0 in
-    settled-reports (cellsFault (compareCells (b s) (d s)) (length (now (s .args .work)))) (C s) (compareCells (b s) (d s)) (before s)
-    (cells-suffice (cells-is s) (e .if1 .left))
-    D
-    (answers-unique (D .answers) (emptiness-answers (P s) CP))
-    (counts-unique (D .counted) (reached-states (P s) CP))
+    reports-searched (s .pre .0) (f .first-lasso .ensures .0) (cells-suffice (cells-is s) (e .if1 .left)) (c .placed .ensures)
     (f .first-lasso .ensures .1 ∙ ap (λ (x : ℕ). replicate x 0) (length-take-le _ _ (e .if1 .left)))
     (cells-is s)
 
@@ -115,6 +109,7 @@ search-cells-spec =
     slice-relend-prefix-first-lasso
     slice-aggregate-first-lasso
     first-lasso-requires
+    placed-requires
     same-length
     same-length-2
     same-length-3

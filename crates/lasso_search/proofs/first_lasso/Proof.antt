@@ -10,7 +10,8 @@ use Rattle.fdfa.specs.Family.{Fdfa}
 use Rattle.pairing.specs.declared.PairSizes.{PairSizes}
 use Rattle.pairing.proofs.Within.{few-pairs}
 use Rattle.lasso_search.specs.declared.Codes.the-variants.{Absent, Found}
-use Rattle.lasso_search.specs.Lassos.{difference, Lent}
+use Rattle.lasso_search.specs.Lassos.{Lent}
+use Rattle.lasso_search.specs.Reporting.{difference}
 use Rattle.lasso_search.specs.Codes.{Located}
 use Rattle.lasso_search.proofs.Difference.{complete}
 use Rattle.lasso_search.proofs.Written.{can-tell, reports-none, reports-first}

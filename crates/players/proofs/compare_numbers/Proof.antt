@@ -2,8 +2,8 @@
 use mathlib.Core.Path.{ap, sym, _∙_}
 use mathlib.Core.List.{[], _∷_}
 use Prim.Native.Nat.{ℕ}
-use Rattle.lasso_search.specs.declared.Outcome.{Outcome}
-use Rattle.lasso_search.specs.Lassos.{outcomeSays}
+use Rattle.inclusion.specs.declared.Outcome.{Outcome}
+use Rattle.inclusion.specs.Outcomes.{outcomeSays}
 use Rattle.players.specs.Layout.{compareNumbers}
 use borrow.Author.Needs.{needs}
 use Rattle.players.proofs.compare_numbers.Statement.{statement}

@@ -5,13 +5,14 @@
 mod forms;
 mod refusals;
 mod searches;
+mod standings;
 mod texts;
 mod tries;
 
 use crate::driver::calls::{answer, lines};
 use crate::driver::line::print;
 use crate::inclusion::Search;
-use crate::rows::{A, B, C, D, E};
+use crate::rows::{complemented, A, B, C, D, E, HALL, LEFT, RIGHT};
 
 pub struct Row {
     pub line: String,
@@ -23,6 +24,7 @@ pub fn rows() -> Vec<Row> {
     let mut rows = tries::rows();
     rows.extend(refusals::rows());
     rows.extend(searches::rows());
+    rows.extend(standings::rows());
     rows.extend(texts::rows());
     rows.extend(forms::rows());
     rows
@@ -48,7 +50,7 @@ fn note(text: &str) -> Row {
     Row { line: format!("# {text}"), stated: format!("# {text}") }
 }
 
-/// A row in which sheets and texts of 01 may stand by name: `verdict B - 0`, `read B.txt 11*9`.
+/// A row in which sheets and texts may stand by name, complements too: `verdict B - 0`, `verdict co-B - 0`, `read B.txt 11*9`.
 fn row(line: &str, stated: &str) -> Row {
     let words: Vec<String> = line.split(' ').map(expanded).collect();
     Row { line: words.join(" "), stated: stated.to_string() }
@@ -61,9 +63,10 @@ fn table(rows: &[(impl AsRef<str>, &str)]) -> Vec<Row> {
 }
 
 fn expanded(word: &str) -> String {
-    let sheets = [("A", A), ("B", B), ("C", C), ("D", D), ("E", E)];
-    if let Some((_, sheet)) = sheets.iter().find(|(name, _)| *name == word) {
-        return print(sheet);
+    let sheets = [("A", A), ("B", B), ("C", C), ("D", D), ("E", E), ("LEFT", LEFT), ("RIGHT", RIGHT), ("HALL", HALL)];
+    let (name, turned) = word.strip_prefix("co-").map_or((word, false), |name| (name, true));
+    if let Some((_, sheet)) = sheets.iter().find(|(known, _)| *known == name) {
+        return if turned { print(&complemented(sheet)) } else { print(sheet) };
     }
     match texts::TEXTS.iter().find(|(name, _)| *name == word) {
         Some((_, text)) => print(text.as_bytes()),

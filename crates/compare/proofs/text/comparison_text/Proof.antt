@@ -38,6 +38,9 @@ slice-aggregate-put-verdict c = search needs
 put-verdict-requires : tie.Need-put-verdict-requires
 put-verdict-requires c κs = search needs
 
+put-standings-requires : tie.Need-put-standings-requires
+put-standings-requires c κs = omega (arith, c .before .before .before .put-verdict .ensures .1)
+
 enum-known-answer-2 : tie.Need-enum-known-answer-2
 enum-known-answer-2 c = search needs
 
@@ -57,6 +60,13 @@ put-show-requires : tie.Need-put-show-requires
 put-show-requires c κs =
     let h = short (c .before .before .before .before .before .before .before .before .before) in omega (arith, h .0, h .1, c .before .before .before .before .before .put-verdict2 .ensures .1)
 
+put-standings-requires-2 : tie.Need-put-standings-requires-2
+put-standings-requires-2 c κs =
+    let t = c .before .before .before in
+    let v = t .before .before .before .before .before .before in
+    let h = short (v .before .before .before .before) in
+    omega (arith, h .0, h .1, v .put-verdict2 .ensures .1, t .put-show .ensures .1)
+
 enum-known-answer-3 : tie.Need-enum-known-answer-3
 enum-known-answer-3 c = search needs
 
@@ -67,15 +77,20 @@ same-length : tie.Need-same-length
 same-length c = search needs
 
 returns : tie.Need-returns
-returns c = absent-shown _ _ (c .before .before .before .before .before .before .answer .given .1) (c .before .before .before .before .before .before .before .before .before .before .before .pre .3) (c .before .before .put-verdict .ensures)
+returns c =
+    let v = c .before .before .before .before .before .before in
+    let a = v .before .before .before .before in
+    absent-shown _ _ (a .answer .given .1) (a .before .before .before .before .before .pre .3) (v .put-verdict .ensures) (c .before .before .put-standings .ensures)
 
 same-length-2 : tie.Need-same-length-2
 same-length-2 c = search needs
 
 returns-2 : tie.Need-returns-2
 returns-2 c =
-    let a = c .before .before .before .before .before .before .before .before .before .before .before .before in
-    found-shown _ _ (a .answer2 .given .1) (start a .pre .3) (short a .0) (short a .1) (c .before .before .before .before .before .before .before .before .put-verdict2 .ensures) (c .before .before .put-show .ensures)
+    let t = c .before .before .before .before .before .before in
+    let v = t .before .before .before .before .before .before in
+    let a = v .before .before .before .before in
+    found-shown _ _ (a .answer2 .given .1) (start a .pre .3) (short a .0) (short a .1) (v .put-verdict2 .ensures) (t .put-show .ensures) (c .before .before .put-standings2 .ensures)
 
 same-length-3 : tie.Need-same-length-3
 same-length-3 c = search needs
@@ -90,12 +105,14 @@ comparison-text-spec =
     enum-known-answer
     slice-aggregate-put-verdict
     put-verdict-requires
+    put-standings-requires
     enum-known-answer-2
     slice-aggregate-put-verdict-2
     put-verdict-requires-2
     slice-aggregate-put-show
     slice-aggregate-put-show-2
     put-show-requires
+    put-standings-requires-2
     enum-known-answer-3
     refusal-text-requires
     same-length

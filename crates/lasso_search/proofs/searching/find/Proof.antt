@@ -15,7 +15,7 @@ use Rattle.search.specs.Search.{joint, Expanded}
 use Rattle.lasso_search.specs.declared.Candidate.{Candidate}
 use Rattle.lasso_search.specs.declared.Codes.{Codes}
 use Rattle.lasso_search.specs.declared.Codes.the-variants.{Absent}
-use Rattle.lasso_search.specs.Lassos.{difference}
+use Rattle.lasso_search.specs.Reporting.{difference}
 use Rattle.lasso_search.specs.Codes.{Room, Next, CanFind, Located}
 use Rattle.lasso_search.proofs.Difference.{complete}
 use Rattle.lasso_search.proofs.Lassos.{none-accepted}

@@ -11,7 +11,7 @@ use Rattle.fdfa.specs.Family.{Fdfa}
 use Rattle.pairing.specs.Pairs.{Alike}
 use Rattle.pairing.proofs.Within.{few-pairs}
 use Rattle.search.specs.Queue.{stateAt}
-use Rattle.lasso_search.specs.Lassos.{difference}
+use Rattle.lasso_search.specs.Reporting.{difference}
 use Rattle.lasso_search.specs.Codes.{Room, Round}
 use Rattle.lasso_search.proofs.Difference.{complete}
 use Rattle.lasso_search.proofs.Rounds.{tail-long, returned-front, returned-long, round-in, round-next}

@@ -12,7 +12,7 @@ use Rattle.packed.specs.Layout.{stateCount}
 use Rattle.pairing.specs.declared.Beside.{Beside}
 use Rattle.pairing.specs.Pairs.{Alike}
 use Rattle.search.specs.Words.{Over}
-use Rattle.lasso_search.specs.Lassos.{difference}
+use Rattle.lasso_search.specs.Reporting.{difference}
 use Rattle.lasso_search.specs.Codes.{Tabulated, Fresh, Room}
 use Rattle.lasso_search.proofs.Difference.{Progress, wide, pair-in, progress-at, tabulated}
 use Rattle.lasso_search.proofs.searching.prepare.Statement.{statement}

@@ -11,7 +11,7 @@ use Rattle.fdfa.specs.Family.{Fdfa}
 use Rattle.pairing.specs.declared.Beside.{Beside}
 use Rattle.pairing.specs.Pairs.{nextPair, Steps}
 use Rattle.pairing.proofs.Within.{lead-steps}
-use Rattle.lasso_search.specs.Lassos.{difference}
+use Rattle.lasso_search.specs.Reporting.{difference}
 use Rattle.lasso_search.specs.Codes.{Tabulated, Leads, CanFind}
 use Rattle.lasso_search.proofs.Difference.{complete, lead-step, tabulated}
 use Rattle.lasso_search.proofs.searching.start.Statement.{statement}

@@ -1,5 +1,5 @@
 -- `packed::walking::walk` meets its contract: after i letters it stands where the walk over them leads. Assumes nothing.
-use mathlib.Core.Path.{_≡_, refl, ap₂, sym, _∙_}
+use mathlib.Core.Path.{_≡_, refl, _∙_}
 use mathlib.Core.List.{List}
 use Prim.Native.Nat.{ℕ, _+_, _*_, _-_, _≤_, _<_}
 use native.Mathlib.Omega.{arith}
@@ -7,7 +7,7 @@ use denote.Ref.{now}
 use lib.ListN.{length, getD, take, drop, length-drop}
 use lib.Seq.{length-take-le, getD-take, getD-drop}
 use Rattle.fdfa.specs.Family.{walk}
-use Rattle.fdfa.proofs.Words.{walk-take, walk-all}
+use Rattle.fdfa.proofs.Words.{walk-on, walk-all}
 use Rattle.packed.specs.Columns.{columnStep, Walkable}
 use borrow.Author.Needs.{needs}
 use Rattle.packed.proofs.walking.walk.Statement.{statement}
@@ -22,9 +22,6 @@ abbrev μ-loop : tie.MeasureT-loop
 -- the cell that is read
 reads : (t w : List ℕ) (q₀ q a i : ℕ) → Walkable t q₀ w → i < length w → q ≡ walk (columnStep t) q₀ (take i w) → a ≡ getD w i 0 → 32 * a + q < length t
 reads t w q₀ q a i inside h e d = rw (e, d) (inside .inside i h)
-
-steps : (t w : List ℕ) (q₀ q a i : ℕ) → i < length w → q ≡ walk (columnStep t) q₀ (take i w) → a ≡ getD w i 0 → columnStep t q a ≡ walk (columnStep t) q₀ (take (i + 1) w)
-steps t w q₀ q a i h e d = ap₂ (columnStep t) e d ∙ sym (walk-take (columnStep t) q₀ w i h)
 
 -- the column that is lent
 part-length : (t : List ℕ) (n : ℕ) → length (take (length t - n) (drop n t)) ≡ length t - n
@@ -79,7 +76,7 @@ loop-again c =
       search needs,
       c .read .ensures
           ∙ (part-cell t (32 * w .wide .result) (i .loop .q) (cell w)
-          ∙ steps t (now (start i .args .word)) _ _ _ (i .loop .i) (w .before .before .loop-test .taken) (i .loop .inv .1) (w .wide .ensures)),
+          ∙ walk-on (columnStep t) _ (now (start i .args .word)) (i .loop .i) (w .before .before .loop-test .taken) (i .loop .inv .1) (w .wide .ensures)),
     )
 
 returns : tie.Need-returns Inv-loop μ-loop
