@@ -22,9 +22,9 @@ pub struct Standings {
 }
 
 // A state of each of two automata.
-pub struct Pair {
-    pub first: usize,
-    pub second: usize,
+struct Pair {
+    first: usize,
+    second: usize,
 }
 
 // Where two automata stand after the word, from their starts. Their tables are read where they lie: most lassos that are found are
