@@ -2,7 +2,7 @@
 cd "$(dirname "$0")" || exit 2
 root=$(cd ../.. && pwd)
 bin=$root/target/bin
-for program in compare pack unpack; do
+for program in compare pack unpack verdict; do
     [ -x "$bin/$program" ] || { echo "not built: $program (rt check $program)"; exit 2; }
 done
 top=$(mktemp -d)
@@ -54,6 +54,26 @@ uniform() {
         for (q = 0; q < n; q++) { put(k * s, next_place); put(k, mark) }
     }' > "$top/octal"
     printf "$(cat "$top/octal")"
+}
+
+# damaged_sheets: number and place of the refusal, then the bytes
+damaged_sheets() {
+    cat << 'END'
+1 1 2
+1 3 2 2 1
+1 7 2 1 1 0 0 0 0
+1 9 2 1 1 0 0 0 0 1 0
+1 10 2 1 2 0 0 1 0 1 1 0
+2 0 0 1 1 0 0 0 0 1
+2 0 33 1 1 0 0 0 0 1
+3 1 2 0 1 0 0 0 0 1
+3 1 2 33 1 0 0 0 0 1
+4 2 2 1 0 0 0 0 0 1
+4 2 2 1 33 0 0 0 0 1
+5 3 2 1 1 1 0 0 0 1
+5 6 2 1 1 0 0 0 1 1
+6 7 2 1 1 0 0 0 0 2
+END
 }
 
 refusal() {

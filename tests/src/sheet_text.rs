@@ -2,9 +2,8 @@
 
 use crate::generate::Draft;
 use crate::lent::fill;
-use crate::numeral::number;
 use crate::sheet::{Part, Refusal, Sheet, MOST};
-use std::ops::RangeInclusive;
+use crate::text_reader::Reader;
 
 /// Puts the packed sheet of a text into the out slice.
 pub fn read(text: &[u8], out: &mut [u8]) -> Result<usize, Refusal> {
@@ -17,7 +16,7 @@ pub fn write(sheet: &[u8], out: &mut [u8]) -> Result<usize, Refusal> {
 }
 
 fn sheet_of(text: &[u8]) -> Result<Draft, Refusal> {
-    let mut text = Reader { text, place: 0 };
+    let mut text = Reader::new(text);
     text.literal("level scenes places\n")?;
     text.number(10, 3..=3)?;
     text.literal(" ")?;
@@ -32,7 +31,7 @@ fn sheet_of(text: &[u8]) -> Result<Draft, Refusal> {
         text.number(12, state..=state)?;
         text.literal(" ")?;
         sizes.push(text.number(4, 1..=MOST)?);
-        text.next_states(letters, states, &mut leading)?;
+        next_states(&mut text, letters, states, &mut leading)?;
     }
 
     text.literal(&format!("place loop mark{}\n", letter_names(letters)))?;
@@ -45,7 +44,7 @@ fn sheet_of(text: &[u8]) -> Result<Draft, Refusal> {
             text.number(12, progress_state..=progress_state)?;
             text.literal(" ")?;
             marks.push(text.number(6, 0..=1)? as u8);
-            text.next_states(letters, size, &mut next)?;
+            next_states(&mut text, letters, size, &mut next)?;
         }
         progress.push((next, marks));
     }
@@ -76,53 +75,13 @@ fn letter_names(letters: usize) -> String {
     (0..letters).map(|letter| format!(" s{letter}")).collect()
 }
 
-/// A text and the place that reading has reached.
-struct Reader<'a> {
-    text: &'a [u8],
-    place: usize,
-}
-
-impl Reader<'_> {
-    /// Bytes that must stand here: refusal 11 at the first that does not, or at the length where the text ends.
-    fn literal(&mut self, due: &str) -> Result<(), Refusal> {
-        for &byte in due.as_bytes() {
-            if self.text.get(self.place) != Some(&byte) {
-                return refuse(11, self.place);
-            }
-            self.place += 1;
-        }
-        Ok(())
+/// The rest of a row: for each letter a space and a state below `states`, then the line feed.
+fn next_states(text: &mut Reader, letters: usize, states: usize, next: &mut Vec<u8>) -> Result<(), Refusal> {
+    for _ in 0..letters {
+        text.literal(" ")?;
+        next.push(text.number(5, 0..=states - 1)? as u8);
     }
-
-    /// A number: refusal 11 for its form, else the given one, at its first byte, if it is out of range.
-    fn number(&mut self, refusal: usize, range: RangeInclusive<usize>) -> Result<usize, Refusal> {
-        let (value, next) = number(self.text, self.place).or_else(|place| refuse(11, place))?;
-        if !range.contains(&value) {
-            return refuse(refusal, self.place);
-        }
-        self.place = next;
-        Ok(value)
-    }
-
-    /// The rest of a row: for each letter a space and a state below `states`, then the line feed.
-    fn next_states(&mut self, letters: usize, states: usize, next: &mut Vec<u8>) -> Result<(), Refusal> {
-        for _ in 0..letters {
-            self.literal(" ")?;
-            next.push(self.number(5, 0..=states - 1)? as u8);
-        }
-        self.literal("\n")
-    }
-
-    fn end(&self) -> Result<(), Refusal> {
-        if self.place < self.text.len() {
-            return refuse(11, self.place);
-        }
-        Ok(())
-    }
-}
-
-fn refuse<T>(number: usize, place: usize) -> Result<T, Refusal> {
-    Err(Refusal { number, part: Part::First, place })
+    text.literal("\n")
 }
 
 #[cfg(test)]

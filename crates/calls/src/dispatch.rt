@@ -2,6 +2,7 @@
 use crate::operations;
 use crate::searches;
 use crate::sheet;
+use crate::shows;
 use crate::text;
 use crate::walking;
 use forms::arguments::Given;
@@ -14,8 +15,8 @@ use forms::table::find;
 use forms::table::form_of;
 use lines::words::Word;
 
-const FORMS: [u8; 167] =
-    *b"check i|verdict i i i|complement i x|intersection i i x|union i i x|compare i i x y w|emptiness i x y w|start i|step p n i i|rest p n i i|number i n|read i x|write i x";
+const FORMS: [u8; 200] =
+    *b"check i|verdict i i i|complement i x|intersection i i x|union i i x|compare i i x y w|emptiness i x y w|start i|step p n i i|rest p n i i|number i n|read i x|write i x|read-show i x y|write-show i i x";
 
 // The call that a line makes.
 pub fn call_of(line: &[u8]) -> Word {
@@ -52,6 +53,8 @@ pub fn make(
         10 => text::number(a, g.n),
         11 => text::read(a, x),
         12 => text::write(a, x),
+        13 => shows::read(a, x, y),
+        14 => shows::write(a, b, x),
         _ => say(REFUSED),
     }
 }

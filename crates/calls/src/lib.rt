@@ -5,4 +5,5 @@ pub mod operations; // operations.rt: complement, intersection, union
 pub mod searches; // searches.rt: compare, emptiness
 pub mod walking; // walking.rt: start, step, rest of the cursor
 pub mod text; // text.rt: number, read, write
+pub mod shows; // shows.rt: read-show, write-show
 pub mod dispatch; // dispatch.rt: the table of the calls, and the call with a number

@@ -1,7 +1,7 @@
 -- The blocks of what the comparison prints, out of the texts that they are stored by. Assumes nothing.
 use mathlib.Core.Path.{_≡_, ap, sym, subst}
 use mathlib.Core.List.{List, _++_, append-assoc}
-use Prim.Native.Nat.{ℕ, _+_, _*_, _≤_, _<_}
+use Prim.Native.Nat.{ℕ, _+_, _≤_, _<_}
 use native.Mathlib.Omega.{arith}
 use lib.ListN.{length, take}
 use Rattle.slices.specs.declared.Refusal.{Refusal}
@@ -11,15 +11,11 @@ use Rattle.inclusion.specs.declared.Outcome.{Outcome}
 use Rattle.inclusion.specs.declared.Outcome.the-variants.{Absent, Found, Refused}
 use Rattle.numbers.specs.Digits.{field}
 use Rattle.numbers.specs.Storing.{Stored}
-use Rattle.numbers.proofs.Digits.{length-field, digits-few}
-use Rattle.numbers.proofs.Stores.{stored-then, stored-as, stored-written}
+use Rattle.numbers.proofs.Stores.{stored-then, stored-as}
+use Rattle.lasso_text.specs.Text.{lassoText}
 use Rattle.console.specs.Printed.{Shows, refusalText}
-use Rattle.console.proofs.Printed.{shows-as}
-use Rattle.compare.specs.Text.{verdictTitle, contained, missing, verdictBlock, sceneTitle, showBlock, standingTitle, standingLine, standingBlock, comparisonText, Lies}
-
--- a field of a number of 64 bits
-pub field-few : (n e : ℕ) → n < 18446744073709551616 → length (field n e) ≤ 21
-field-few n e h = omega (arith, length-field n e, digits-few n h)
+use Rattle.console.proofs.Printed.{shows-as, field-few, stored-shows}
+use Rattle.compare.specs.Text.{verdictTitle, contained, missing, verdictBlock, standingTitle, standingLine, standingBlock, comparisonText, Lies}
 
 pub five : (a b c d e : List ℕ) → (((a ++ b) ++ c) ++ d) ++ e ≡ a ++ b ++ c ++ d ++ e
 five a b c d e = simp append-assoc
@@ -38,18 +34,6 @@ verdict-stored verdict z l h k m a b c d e = (
   omega (arith, a .next, b .next, c .next, d .next, e .next, field-few (z .reached) 32 h, field-few (z .prefix) 32 k, field-few (z .period) 10 m),
 )
 
--- the line of a scene
-pub scene-stored : {old mid new : List ℕ} {at p r w : ℕ} (name : List ℕ) (scene : ℕ) → w ≡ scene → scene < 256 → length name ≤ 8
-    → Stored old at name mid p → Stored mid p (field w 10) new r → Stored old at (name ++ field scene 10) new r × (r ≤ at + 29)
-scene-stored name scene e h l a b =
-    let c = stored-as (ap (λ (n : ℕ). field n 10) e) b in
-    (stored-then name (field scene 10) a c, omega (arith, a .next, c .next, field-few scene 10 (omega arith)))
-
--- the second block, part by part
-pub show-stored : {old o₁ o₂ new : List ℕ} {at p₁ p₂ r : ℕ} (m n : ℕ) (u v : List ℕ) → Stored old at sceneTitle o₁ p₁ → Stored o₁ p₁ u o₂ p₂ × (p₂ ≤ p₁ + m)
-    → Stored o₂ p₂ v new r × (r ≤ p₂ + n) → Stored old at (sceneTitle ++ u ++ v) new r × (r ≤ at + 11 + m + n)
-show-stored m n u v a b c = (stored-as (three sceneTitle u v) (stored-then _ _ (stored-then _ _ a (b .0)) (c .0)), omega (arith, a .next, b .1, c .1))
-
 -- the last block, line by line
 pub line-stored : {old mid new : List ℕ} {at p r : ℕ} (x : Standing) → x .waits < 18446744073709551616 → x .ends < 18446744073709551616
     → Stored old at (field (x .waits) 32) mid p → Stored mid p (field (x .ends) 10) new r → Stored old at (standingLine x) new r × (r ≤ at + 42)
@@ -59,14 +43,6 @@ pub standing-stored : {old o₁ o₂ new : List ℕ} {at p₁ p₂ r : ℕ} (z :
     → Stored o₂ p₂ (standingLine (z .second)) new r × (r ≤ p₂ + 42) → Stored old at (standingBlock z) new r × (r ≤ at + 95)
 standing-stored z a b c =
     (stored-as (three standingTitle (standingLine (z .first)) (standingLine (z .second))) (stored-then _ _ (stored-then _ _ a (b .0)) (c .0)), omega (arith, a .next, b .1, c .1))
-
--- a text that is stored from the start and has room is shown
-pub stored-shows : {x old new : List ℕ} {r room : ℕ} → Stored old 0 x new r → r ≤ room → room ≤ length old → Shows x old new r
-stored-shows {x} {old} s h k = record {
-  says = omega (arith, s .next);
-  fits = omega arith;
-  cells = stored-written s (omega (arith, s .next));
-}
 
 -- what lies within the slices, of an answer that is known
 pub lies-found : {answer : Outcome} {z : Comparison} (o p : ℕ) → answer ≡ Found z → Lies answer o p → (z .prefix ≤ o) × (z .period ≤ p)
@@ -80,13 +56,12 @@ absent-shown {z = z} o p e h a b =
     (stored-shows {room = 237776} (stored-then (verdictBlock contained z) (standingBlock z) (a .0) (b .0)) (omega (arith, a .1, b .1)) h)
 
 pub found-shown : {answer : Outcome} {z : Comparison} {old o₁ o₂ new : List ℕ} {q₁ q₂ r : ℕ} (o p : List ℕ) → answer ≡ Found z → 237776 ≤ length old
-    → length (take (z .prefix) o) ≤ 4096 → length (take (z .period) p) ≤ 4096 → Stored old 0 (verdictBlock missing z) o₁ q₁ × (q₁ ≤ 0 + 102)
-    → Stored o₁ q₁ (showBlock (take (z .prefix) o) (take (z .period) p)) o₂ q₂ × (q₂ ≤ q₁ + 11 + length (take (z .prefix) o) * 29 + length (take (z .period) p) * 29)
-    → Stored o₂ q₂ (standingBlock z) new r × (r ≤ q₂ + 95) → Shows (comparisonText answer o p) old new r
-found-shown {z = z} o p e h k l a b c =
-    let show = showBlock (take (z .prefix) o) (take (z .period) p) in
-    let s = stored-as (three (verdictBlock missing z) show (standingBlock z)) (stored-then _ (standingBlock z) (stored-then (verdictBlock missing z) show (a .0) (b .0)) (c .0)) in
-    shows-as (ap (λ (x : Outcome). comparisonText x o p) (sym e)) (stored-shows {room = 237776} s (omega (arith, a .1, b .1, c .1)) h)
+    → length (lassoText (take (z .prefix) o) (take (z .period) p)) ≤ 237579 → Stored old 0 (verdictBlock missing z) o₁ q₁ × (q₁ ≤ 0 + 102)
+    → Stored o₁ q₁ (lassoText (take (z .prefix) o) (take (z .period) p)) o₂ q₂ → Stored o₂ q₂ (standingBlock z) new r × (r ≤ q₂ + 95) → Shows (comparisonText answer o p) old new r
+found-shown {z = z} o p e h k a b c =
+    let show = lassoText (take (z .prefix) o) (take (z .period) p) in
+    let s = stored-as (three (verdictBlock missing z) show (standingBlock z)) (stored-then _ (standingBlock z) (stored-then (verdictBlock missing z) show (a .0) b) (c .0)) in
+    shows-as (ap (λ (x : Outcome). comparisonText x o p) (sym e)) (stored-shows {room = 237776} s (omega (arith, a .1, b .next, c .1)) h)
 
 pub refused-shown : {answer : Outcome} {x : Refusal} {old new : List ℕ} {r : ℕ} (o p : List ℕ) → answer ≡ Refused x → Shows (refusalText x) old new r
     → Shows (comparisonText answer o p) old new r

@@ -4,6 +4,7 @@ use mathlib.Core.List.{List, [], _∷_, _++_}
 use Prim.Native.Nat.{ℕ}
 use Rattle.slices.specs.Tables.{rows}
 use Rattle.numbers.specs.Digits.{digitsWithin, digitsOf}
+use Rattle.lasso_text.specs.Text.{letterLines, lassoText}
 use Rattle.inclusion.specs.declared.Outcome.the-variants.{Found}
 use Rattle.compare.specs.Text.{standingBlock, comparisonText}
 
@@ -34,7 +35,7 @@ six = 48 ∷ 32 ∷ 48 ∷ 10 ∷ []
 pub a-in-b : comparisonText
     (Found (record { reached = 1; prefix = 0; period = 1; first = record { waits = 0; ends = 0 }; second = record { waits = 0; ends = 0 } })) [] (1 ∷ [])
     ≡ one ++ two ++ three ++ four ++ five ++ six ++ six
-unfolding rows digitsOf digitsWithin
+unfolding lassoText letterLines rows digitsOf digitsWithin
 a-in-b = refl
 
 -- 2 1, then 3 4

@@ -1,3 +1,4 @@
-mod Fits
 mod Blocks
+mod Answers
+mod ReadBack
 mod Example

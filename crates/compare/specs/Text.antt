@@ -1,15 +1,22 @@
 -- What the comparison prints for each answer (01, and the last block 02), block by block. Assumes nothing.
+use mathlib.Core.Bool.{cond}
 use mathlib.Core.List.{List, [], _∷_, _++_}
 use Prim.Native.Nat.{ℕ, _≤_}
-use lib.ListN.{length, take, getD}
-use Rattle.slices.specs.declared.Part.the-variants.{Opening, Loop}
-use Rattle.slices.specs.Tables.{rows}
+use lib.ListN.{length, take, replicate}
+use Rattle.slices.specs.Refusals.{Fault, Result, given, refused, unless}
+use Rattle.fdfa.specs.Enumeration.{Witness}
+use Rattle.fdfa.specs.Inclusion as model
+use Rattle.packed.specs.Layout.{decode}
 use Rattle.numbers.specs.Digits.{field}
-use Rattle.console.specs.Printed.{partField, refusalText}
+use Rattle.lasso_text.specs.Text.{lassoText}
+use Rattle.console.specs.Printed.{refusalText}
 use Rattle.standing.specs.declared.Standing.{Standing}
+use Rattle.lasso_search.specs.Lassos.{prefixOf, periodOf}
 use Rattle.inclusion.specs.declared.Comparison.{Comparison}
 use Rattle.inclusion.specs.declared.Outcome.{Outcome}
 use Rattle.inclusion.specs.declared.Outcome.the-variants.{Absent, Found, Refused}
+use Rattle.inclusion.specs.Outcomes.{Answer, answerOf}
+use Rattle.inclusion.specs.Calls.{Slices, callFault, compareStart}
 
 -- "verdict reached opening loop" and a line feed
 abbrev pub verdictTitle : List ℕ
@@ -26,18 +33,6 @@ missing = 109 ∷ 105 ∷ 115 ∷ 115 ∷ 105 ∷ 110 ∷ 103 ∷ 32 ∷ []
 abbrev pub verdictBlock : List ℕ → Comparison → List ℕ
 verdictBlock verdict z = verdictTitle ++ verdict ++ field (z .reached) 32 ++ field (z .prefix) 32 ++ field (z .period) 10
 
--- "part scene" and a line feed
-abbrev pub sceneTitle : List ℕ
-sceneTitle = 112 ∷ 97 ∷ 114 ∷ 116 ∷ 32 ∷ 115 ∷ 99 ∷ 101 ∷ 110 ∷ 101 ∷ 10 ∷ []
-
--- A line for each scene: the name of its part and a space, then its number.
-abbrev pub sceneLines : List ℕ → List ℕ → List ℕ
-sceneLines name scenes = rows (length scenes) (λ i. name ++ field (getD scenes i 0) 10)
-
--- The second block: the line of names, the opening's lines, then the loop's.
-abbrev pub showBlock : List ℕ → List ℕ → List ℕ
-showBlock u v = sceneTitle ++ sceneLines (partField Opening) u ++ sceneLines (partField Loop) v
-
 -- "waits ends" and a line feed
 abbrev pub standingTitle : List ℕ
 standingTitle = 119 ∷ 97 ∷ 105 ∷ 116 ∷ 115 ∷ 32 ∷ 101 ∷ 110 ∷ 100 ∷ 115 ∷ 10 ∷ []
@@ -50,14 +45,35 @@ standingLine x = field (x .waits) 32 ++ field (x .ends) 10
 abbrev pub standingBlock : Comparison → List ℕ
 standingBlock z = standingTitle ++ standingLine (z .first) ++ standingLine (z .second)
 
--- The first block, for a counter-show the second, of what was written to the slices, and the last; or the refusal.
+-- The first block, for a counter-show its text, and the last; or the refusal.
+abbrev pub answerText : Result Answer → Witness → List ℕ
+answerText (given a) w =
+    cond (a .none) (verdictBlock contained (a .numbers) ++ standingBlock (a .numbers))
+    (verdictBlock missing (a .numbers) ++ lassoText (prefixOf w) (periodOf w) ++ standingBlock (a .numbers))
+answerText (refused r) w = refusalText r
+
+-- The slices that the program lends: 4,096 scenes for each part of a show, 8,192 cells.
+abbrev pub room : Slices
+room = record { opening = replicate 4096 0; period = replicate 4096 0; work = replicate 8192 0 }
+
+-- What is printed for the bytes of two sheets: the answer to their comparison in that room.
+abbrev pub compared : List ℕ → List ℕ → model.Comparison
+compared b c = model.comparison (decode b) (decode c)
+
+abbrev pub programFault : List ℕ → List ℕ → Fault
+programFault b c = callFault (compareStart b c (length (room .work))) (compared b c) room
+
+unfoldable pub programText : List ℕ → List ℕ → List ℕ
+programText b c = answerText (unless (programFault b c) (answerOf (compared b c))) (compared b c .witness)
+
+-- Of the inner function, for the answer of the code: the show is what was written to the slices.
 abbrev pub comparisonText : Outcome → List ℕ → List ℕ → List ℕ
 comparisonText (Absent z) opening period = verdictBlock contained z ++ standingBlock z
 comparisonText (Found z) opening period =
-    verdictBlock missing z ++ showBlock (take (z .prefix) opening) (take (z .period) period) ++ standingBlock z
+    verdictBlock missing z ++ lassoText (take (z .prefix) opening) (take (z .period) period) ++ standingBlock z
 comparisonText (Refused r) opening period = refusalText r
 
--- A show that was found lies within slices of these lengths.
+-- Of the inner function: a show that was found lies within slices of these lengths.
 abbrev pub Lies : Outcome → ℕ → ℕ → Type 0
 Lies (Absent z) o p = Unit {0}
 Lies (Found z) o p = (z .prefix ≤ o) × (z .period ≤ p)

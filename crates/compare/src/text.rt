@@ -3,15 +3,13 @@ use format::put_literal;
 use inclusion::Comparison;
 use inclusion::Outcome;
 use inclusion::Standing;
+use lasso_text::put_lasso;
 use numbers::put_field;
-use slices::wide;
-ghost use mathlib.Core.List.{_++_};
-ghost use Prim.Native.Nat.{_+_, _*_, _≤_};
+ghost use Prim.Native.Nat.{_+_, _≤_};
 ghost use lib.ListN.{length};
-ghost use Rattle.numbers.specs.Digits.{field};
 ghost use Rattle.numbers.specs.Storing.{Stored};
 ghost use Rattle.console.specs.Printed.{Shows};
-ghost use Rattle.compare.specs.Text.{verdictBlock, sceneLines, showBlock, standingLine, standingBlock, comparisonText, Lies};
+ghost use Rattle.compare.specs.Text.{verdictBlock, standingLine, standingBlock, comparisonText, Lies};
 
 // Room for what is printed: the first block has at most 102 bytes, the second 11 and at most 29 for each of 8,192 scenes, the last
 // at most 95.
@@ -27,39 +25,6 @@ fn put_verdict(verdict: &[u8], z: Comparison, out: &mut [u8], at: usize) -> usiz
     let reached = put_field(z.reached, b' ', out, judged);
     let opened = put_field(z.prefix, b' ', out, reached);
     put_field(z.period, b'\n', out, opened)
-}
-
-// The line of a scene.
-fn put_scene(name: &[u8], scene: u8, out: &mut [u8], at: usize) -> usize
-    requires { ⌜ (length (now name) ≤ 8) × (at + 29 ≤ 18446744073709551615) ⌝ }
-    ensures { λ r. ⌜ Stored (now (out .entry)) at (now (name .entry) ++ field scene 10) (now (out .exit)) r × (r ≤ at + 29) ⌝ }
-{
-    let named = put_literal(name, out, at);
-    put_field(wide(scene), b'\n', out, named)
-}
-
-// The lines of one part of a show.
-fn put_scenes(name: &[u8], scenes: &[u8], out: &mut [u8], at: usize) -> usize
-    requires { ⌜ (length (now name) ≤ 8) × (at + length (now scenes) * 29 ≤ 18446744073709551615) ⌝ }
-    ensures { λ r. ⌜ Stored (now (out .entry)) at (sceneLines (now (name .entry)) (now (scenes .entry))) (now (out .exit)) r × (r ≤ at + length (now (scenes .entry)) * 29) ⌝ }
-{
-    let mut p = at;
-    let mut i = 0;
-    while i < scenes.len() {
-        p = put_scene(name, scenes[i], out, p);
-        i += 1;
-    }
-    p
-}
-
-// The second block.
-fn put_show(u: &[u8], v: &[u8], out: &mut [u8], at: usize) -> usize
-    requires { ⌜ at + 11 + length (now u) * 29 + length (now v) * 29 ≤ 18446744073709551615 ⌝ }
-    ensures { λ r. ⌜ Stored (now (out .entry)) at (showBlock (now (u .entry)) (now (v .entry))) (now (out .exit)) r × (r ≤ at + 11 + length (now (u .entry)) * 29 + length (now (v .entry)) * 29) ⌝ }
-{
-    let named = put_literal(b"part scene\n", out, at);
-    let opened = put_scenes(b"opening ", u, out, named);
-    put_scenes(b"loop ", v, out, opened)
 }
 
 // The line of a sheet: where it waits, and where it ends.
@@ -97,7 +62,7 @@ pub fn comparison_text(answer: Outcome, opening: &[u8], period: &[u8], out: &mut
             let at = put_verdict(b"missing ", z, out, 0);
             let u = z.prefix;
             let v = z.period;
-            let shown = put_show(&opening[..u], &period[..v], out, at);
+            let shown = put_lasso(&opening[..u], &period[..v], out, at);
             put_standings(z, out, shown)
         }
         Outcome::Refused(r) => console::refusal_text(r, out),

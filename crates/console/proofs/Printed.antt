@@ -32,11 +32,20 @@ shows-more {d} {old} {out} chunk last {a} {k} s t = record {
     room : a + k ≤ length old
     room = omega (arith, t .fits, s .fits, lent-length {a = a} (shows-begun s) (s .fits))
 
+-- a text that is stored from the start and has room is shown
+pub stored-shows : {x old new : List ℕ} {r room : ℕ} → Stored old 0 x new r → r ≤ room → room ≤ length old → Shows x old new r
+stored-shows {x} {old} s h k = record {
+  says = omega (arith, s .next);
+  fits = omega arith;
+  cells = stored-written s (omega (arith, s .next));
+}
+
 -- a number's digits and the byte after them
+pub field-few : (n e : ℕ) → n < 18446744073709551616 → length (field n e) ≤ 21
+field-few n e h = omega (arith, length-field n e, digits-few n h)
+
 pub number-shown : (n end : ℕ) {old out : List ℕ} {r : ℕ} → n < 18446744073709551616 → 21 ≤ length old → Stored old 0 (field n end) out r → Shows (field n end) old out r × (r ≤ 21)
-number-shown n end {old} h l s =
-    let few : length (field n end) ≤ 21 = omega (arith, length-field n end, digits-few n h) in
-    (record { says = omega (arith, s .next); fits = omega (arith, s .next); cells = stored-written s (omega arith) }, omega (arith, s .next))
+number-shown n end {r = r} h l s = let few : r ≤ 21 = omega (arith, s .next, field-few n end h) in (stored-shows {room = 21} s few l, few)
 
 -- a part's name
 part-length : (q : Part) → length (partField q) ≤ 8

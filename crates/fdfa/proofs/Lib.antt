@@ -1,4 +1,5 @@
 pub mod Words
+pub mod Letters
 pub mod Order
 pub mod Pigeonhole
 pub mod Returns

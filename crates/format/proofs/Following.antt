@@ -8,6 +8,7 @@ use borrow.Rule.Slice.PartMut.{same-len-mid}
 use Rattle.slices.specs.declared.Part.{Part}
 use Rattle.slices.specs.declared.Refusal.{Refusal}
 use Rattle.slices.specs.Refusals.{Result, given, refused}
+use Rattle.slices.proofs.Refusals.{never-given}
 use Rattle.slices.specs.Filling.{written}
 use Rattle.slices.proofs.Tables.{getD-first}
 use Rattle.slices.proofs.Filling.{Begun, begun-more, written-front}
@@ -15,7 +16,7 @@ use Rattle.format.specs.declared.Step.{Step}
 use Rattle.format.specs.declared.Step.the-variants.{Next, Refused}
 use Rattle.format.specs.Format.{Format, Found, after, reading, Fits, seq}
 use Rattle.format.specs.Steps.{placed, stepSays, Reads}
-use Rattle.format.proofs.Results.{chain, after-none, after-was, never-given}
+use Rattle.format.proofs.Results.{chain, after-none, after-was}
 use Rattle.format.proofs.Sequences.{onward, reading-seq}
 use Rattle.format.proofs.Inverse.{reading-was}
 use Rattle.format.proofs.Steps.{placed-refused, placed-given}

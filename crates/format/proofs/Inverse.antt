@@ -10,6 +10,7 @@ use lib.ListN.{length, getD, length-append}
 use borrow.Author.Tests.{ltb-true, lt-ltb, eqb-true, eq-eqb}
 use Rattle.slices.specs.declared.Part.{Part}
 use Rattle.slices.specs.Refusals.{Result, given}
+use Rattle.slices.proofs.Refusals.{never-given, given-was}
 use Rattle.slices.specs.Scans.{outside}
 use Rattle.slices.proofs.Scans.{inside, not-outside}
 use Rattle.slices.proofs.Tests.{and-left, and-right, both}
@@ -20,7 +21,7 @@ use Rattle.numbers.specs.Numerals.{numberAt}
 use Rattle.numbers.proofs.Canonical.{NumberRead, number-is, number-was}
 use Rattle.numbers.proofs.Standing.{At, at-nil, at-one, at-append, at-left, at-right}
 use Rattle.format.specs.Format.{Format, done, byte, num, Found, after, refusedAt, stands, judged, reading, printed, Takes, Fits}
-use Rattle.format.proofs.Results.{never-given, given-was, after-was}
+use Rattle.format.proofs.Results.{after-was}
 
 -- a byte that stands there
 pub standing : (t : List ℕ) (c at : ℕ) → stands t c at ≡ true → At t at (c ∷ [])

@@ -1,5 +1,5 @@
 -- Repetition without a known count, as a loop reads it. Assumes nothing.
-use mathlib.Core.Path.{_≡_, ap, sym, subst, _∙_}
+use mathlib.Core.Path.{_≡_, refl, ap, sym, subst, _∙_}
 use mathlib.Core.Bool.{true, false, not, true≢false}
 use mathlib.Core.List.{List, [], _∷_, _++_}
 use Prim.Native.Nat.{ℕ, _+_, _≤_, _<_}
@@ -8,7 +8,8 @@ use native.Mathlib.Decide.{ℕ-discrete}
 use lib.ListN.{length, getD, length-append}
 use Rattle.slices.specs.declared.Part.{Part}
 use Rattle.slices.specs.declared.Refusal.{Refusal}
-use Rattle.slices.specs.Refusals.{given, refused}
+use Rattle.slices.specs.Refusals.{Result, given, refused}
+use Rattle.slices.proofs.Refusals.{never-given, given-was}
 use Rattle.slices.proofs.Extremes.{least-is}
 use Rattle.numbers.specs.Storing.{Stored}
 use Rattle.numbers.proofs.Stores.{stored-none, stored-then, stored-length}
@@ -16,8 +17,7 @@ use Rattle.format.specs.declared.Column.{Column}
 use Rattle.format.specs.declared.Lines.{Lines}
 use Rattle.format.specs.Format.{Found, stands, reading, printed, Takes, Fits, each}
 use Rattle.format.specs.Rows.{cell}
-use Rattle.format.specs.Lines.{labelled, stops, repeats, repeated, linesAt, extent, linesSay, LinesRead}
-use Rattle.format.proofs.Results.{never-given, given-was}
+use Rattle.format.specs.Lines.{labelled, stops, repeats, repeated, linesAt, Extent, extent, linesSay, LinesRead}
 use Rattle.format.proofs.Inverse.{Read, reading-was}
 use Rattle.format.proofs.Fixed.{fixed-literal, then-was, then-text}
 use Rattle.format.proofs.Repeating.{each-none, each-next}
@@ -105,3 +105,14 @@ module _ {part : Part} {t word : List ℕ} {c : Column} {at : ℕ} {old new : Li
 
       all : linesAt part t word c at ≡ refused x
       all = repeats-here (i + 1) (omega (arith, s .ahead, s .inside)) (going g) (ap (stops t (getD word 0 0)) stop) ∙ stop
+
+-- what the lines were, from what is said of them
+pub lines-refused : (x : Result Found) {r : Refusal} → extent x ≡ refused r → x ≡ refused r
+lines-refused (given w) e = absurd (never-given (sym e))
+lines-refused (refused s) e = cc
+
+pub lines-counted : (x : Result Found) {n p : ℕ} → extent x ≡ given (record { count = n; next = p }) → (w : Found) × (x ≡ given w) × (length (w .values) ≡ n) × (w .next ≡ p)
+lines-counted (given w) {n} {p} e =
+    let d = given-was e in
+    (w, refl, ap (λ (z : Extent). z .count) d, ap (λ (z : Extent). z .next) d)
+lines-counted (refused r) e = absurd (never-given e)

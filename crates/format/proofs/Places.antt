@@ -9,6 +9,7 @@ use lib.ListN.{length}
 use Rattle.slices.specs.declared.Part.{Part}
 use Rattle.slices.specs.declared.Refusal.{Refusal}
 use Rattle.slices.specs.Refusals.{Result, given, refused}
+use Rattle.slices.proofs.Refusals.{never-given, refused-was}
 use Rattle.slices.specs.Scans.{outside}
 use Rattle.numbers.specs.declared.Number.{Number}
 use Rattle.numbers.specs.declared.Number.the-variants.{Good, Refused}
@@ -19,29 +20,21 @@ use Rattle.format.proofs.Results.{chain}
 use Rattle.format.proofs.Sequences.{onward, reading-seq}
 use Rattle.format.proofs.Inverse.{standing, reading-was}
 
-abbrev IsGiven : Result Found → Type 0
-IsGiven (given w) = Unit {0}
-IsGiven (refused r) = ⊥
-
-abbrev refusalOr : Refusal → Result Found → Refusal
-refusalOr d (given w) = d
-refusalOr d (refused r) = r
-
 -- The place of a refusal lies from a place on, within the text.
 abbrev pub From : List ℕ → ℕ → Refusal → Type 0
 From t at r = (at ≤ r .place) × (r .place ≤ length t)
 
 module _ (part : Part) (t : List ℕ) where
   here : (k at : ℕ) {r : Refusal} → at ≤ length t → refusedAt k part at ≡ refused r → From t at r
-  here k at {r} h e = subst (From t at) (ap (refusalOr r) e) (omega arith, h)
+  here k at h e = subst (From t at) (refused-was e) (omega arith, h)
 
   after-refused : (d : List ℕ) (x : Result Found) {r : Refusal} → after d x ≡ refused r → x ≡ refused r
-  after-refused d (given w) e = absurd (subst IsGiven e tt)
+  after-refused d (given w) e = absurd (never-given (sym e))
   after-refused d (refused s) e = e
 
   pub refused-from : (f : Format) (at : ℕ) (r : Refusal) → at ≤ length t → reading part t f at ≡ refused r → From t at r
   unfolding reading
-  refused-from done at r h d = absurd (subst IsGiven d tt)
+  refused-from done at r h d = absurd (never-given (sym d))
   refused-from (byte c f) at r h d = by (stands t c at) refl d (refused-from f (at + 1) r)
     where
       by : (b : Bool) → stands t c at ≡ b → cond b (reading part t f (at + 1)) (refusedAt 11 part at) ≡ refused r → (at + 1 ≤ length t → reading part t f (at + 1) ≡ refused r → From t (at + 1) r) → From t at r
@@ -61,7 +54,7 @@ module _ (part : Part) (t : List ℕ) where
           let p = ih (standing t end n e .within) (after-refused (v ∷ []) (reading part t (f v) (n + 1)) k) in (omega (arith, p .0, x .next), p .1)
 
       by : (x : Number) → numberAt part t at ≡ x → judged part t c end at x go ≡ refused r → ((v n : ℕ) → n ≤ length t → reading part t (f v) n ≡ refused r → From t n r) → From t at r
-      by (Refused s) e k ih = subst (From t at) (ap (refusalOr r) k) (refused-within part t at s e h)
+      by (Refused s) e k ih = subst (From t at) (refused-was k) (refused-within part t at s e h)
       by (Good v n) e k ih = ranged v n (number-was part t at v n e) (outside (c .low) (c .limit) v) (stands t end n) refl (ih v (n + 1)) k
 
   -- of two formats in a row, the second is refused no earlier than where the first ended

@@ -9,12 +9,13 @@ use lib.ListN.{length, getD, take, drop, set, length-append}
 use Rattle.slices.specs.declared.Part.{Part}
 use Rattle.slices.specs.declared.Refusal.{Refusal}
 use Rattle.slices.specs.Refusals.{Result, given, refused}
+use Rattle.slices.proofs.Refusals.{never-given, given-was}
 use Rattle.slices.specs.Filling.{written}
 use Rattle.slices.proofs.Filling.{Begun, begun-none, begun-cell, begun-more}
 use Rattle.format.specs.declared.Step.{Step}
 use Rattle.format.specs.Format.{Format, Found, done, byte, after, reading, each, literal}
 use Rattle.format.specs.Steps.{placed, stepSays, Reads}
-use Rattle.format.proofs.Results.{chain, never-given, given-was}
+use Rattle.format.proofs.Results.{chain}
 use Rattle.format.proofs.Sequences.{onward, reading-seq}
 use Rattle.format.proofs.Inverse.{Read, reading-was}
 use Rattle.format.proofs.Steps.{placed-refused, byte-placed}

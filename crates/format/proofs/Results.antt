@@ -1,29 +1,15 @@
 -- What was read, and reading that goes on after it. Assumes nothing.
-use mathlib.Core.Path.{_≡_, refl, ap, sym, subst}
+use mathlib.Core.Path.{_≡_, refl, ap, sym}
 use mathlib.Core.List.{List, [], _++_, append-assoc}
 use Prim.Native.Nat.{ℕ}
-use Rattle.slices.specs.declared.Refusal.{Refusal}
 use Rattle.slices.specs.Refusals.{Result, given, refused}
+use Rattle.slices.proofs.Refusals.{never-given, given-was}
 use Rattle.format.specs.Format.{Found, after}
 
 -- Reading goes on where it found something.
 abbrev pub chain : Result Found → (Found → Result Found) → Result Found
 chain (given w) k = k w
 chain (refused r) k = refused r
-
-abbrev IsRefused : Result Found → Type 0
-IsRefused (given w) = ⊥
-IsRefused (refused r) = Unit {0}
-
-pub never-given : {r : Refusal} {w : Found} → refused r ≡ given w → ⊥
-never-given d = subst IsRefused d tt
-
-abbrev foundOr : Found → Result Found → Found
-foundOr v (given w) = w
-foundOr v (refused r) = v
-
-pub given-was : {v w : Found} → _≡_ {A = Result Found} (given v) (given w) → v ≡ w
-given-was {v} d = ap (foundOr v) d
 
 pub after-none : (r : Result Found) → r ≡ after [] r
 after-none (given w) = refl

@@ -1,5 +1,5 @@
 -- A byte and a cell, as the code reads them. Assumes nothing.
-use mathlib.Core.Path.{_≡_, refl, ap, subst, _∙_}
+use mathlib.Core.Path.{_≡_, refl, ap, sym, _∙_}
 use mathlib.Core.Bool.{Bool, true, false, cond}
 use mathlib.Core.List.{List, [], _∷_}
 use Prim.Native.Nat.{ℕ, _+_, _≤_, _<_}
@@ -8,6 +8,7 @@ use borrow.Author.Tests.{lt-ltb, le-ltb, eq-eqb, ne-eqb}
 use Rattle.slices.specs.declared.Part.{Part}
 use Rattle.slices.specs.declared.Refusal.{Refusal}
 use Rattle.slices.specs.Refusals.{Result, given, refused}
+use Rattle.slices.proofs.Refusals.{never-given, given-was}
 use Rattle.slices.specs.Scans.{outside}
 use Rattle.numbers.specs.declared.Number.{Number}
 use Rattle.numbers.specs.declared.Number.the-variants.{Good, Refused}
@@ -17,26 +18,14 @@ use Rattle.format.specs.Format.{Found, done, byte, after, refusedAt, sta
 use Rattle.format.specs.Rows.{cell}
 use Rattle.format.specs.Steps.{placed}
 
-abbrev IsGiven : Result ℕ → Type 0
-IsGiven (given n) = Unit {0}
-IsGiven (refused r) = ⊥
-
 pub placed-refused : (x : Result Found) {r : Refusal} → placed x ≡ refused r → x ≡ refused r
-placed-refused (given w) e = absurd (subst IsGiven e tt)
+placed-refused (given w) e = absurd (never-given (sym e))
 placed-refused (refused s) e = cc
-
-abbrev IsRefused : Result ℕ → Type 0
-IsRefused (given n) = ⊥
-IsRefused (refused r) = Unit {0}
-
-abbrev placeOr : ℕ → Result ℕ → ℕ
-placeOr d (given n) = n
-placeOr d (refused r) = d
 
 -- a place was given, so something was found
 pub placed-given : (x : Result Found) {e : ℕ} → placed x ≡ given e → (g : Found) × (x ≡ given g) × (g .next ≡ e)
-placed-given (given g) d = (g, refl, ap (placeOr 0) d)
-placed-given (refused r) d = absurd (subst IsRefused d tt)
+placed-given (given g) d = (g, refl, given-was d)
+placed-given (refused r) d = absurd (never-given d)
 
 module _ (part : Part) (t : List ℕ) (c at : ℕ) where
   pub byte-past : length t ≤ at → reading part t (byte c done) at ≡ refusedAt 11 part at
@@ -58,8 +47,8 @@ module _ (part : Part) (t : List ℕ) (c at : ℕ) where
     where
       by : (b : Bool) → placed (cond b (given (record { values = []; next = at + 1 })) (refusedAt 11 part at)) ≡ given e
           → cond b (given (record { values = []; next = at + 1 })) (refusedAt 11 part at) ≡ given (record { values = []; next = e })
-      by true k = ap (λ (n : ℕ). given (record { values = []; next = n })) (ap (placeOr 0) k)
-      by false k = absurd (subst IsRefused k tt)
+      by true k = ap (λ (n : ℕ). given (record { values = []; next = n })) (given-was k)
+      by false k = absurd (never-given k)
 
 module _ (part : Part) (t : List ℕ) (c : Column) (end at : ℕ) where
   pub cell-refused : {r : Refusal} → numberAt part t at ≡ Refused r → reading part t (cell c end) at ≡ refused r

@@ -2,16 +2,15 @@
 -- searched for. Assumes nothing.
 use mathlib.Core.Path.{_≡_, refl, ap, ap₂, sym, subst, _∙_}
 use mathlib.Core.Bool.{Bool, true, false, true≢false}
-use mathlib.Core.List.{List}
 use Prim.Native.Nat.{ℕ, _≤_, _<_}
 use native.Mathlib.Omega.{arith}
-use lib.ListN.{length, take, drop, replicate, length-append}
-use lib.Seq.{take-at}
+use lib.ListN.{length, take, replicate}
 use borrow.Author.Tests.{lt-ltb, le-ltb}
 use Rattle.slices.specs.declared.Part.the-variants.{Work}
 use Rattle.slices.specs.declared.Refusal.{Refusal}
 use Rattle.slices.specs.Refusals.{Fault, sound, fault, _then_, given}
-use Rattle.slices.specs.Filling.{written, filled}
+use Rattle.slices.specs.Filling.{filled}
+use Rattle.slices.proofs.Filling.{filled-front}
 use Rattle.slices.proofs.Refusals.{when-fails, when-passes, passed, failed, refuses, was-given}
 use Rattle.fdfa.specs.Enumeration.{Witness, absent, lasso}
 use Rattle.fdfa.specs.Inclusion as model
@@ -34,23 +33,16 @@ pub record GivenFor (R : ℕ) (w : Witness) (l : Lent) (none : Bool) (r a b : �
   pub prefix : take a (l .opening) ≡ prefixOf w
   pub period : take b (l .period) ≡ periodOf w
 
-front : (u o : List ℕ) {a : ℕ} {o′ : List ℕ} → a ≡ length u → o′ ≡ written u o → (a ≤ length o′) × (take a o′ ≡ u)
-unfolding written
-front u o e w = (
-  omega (arith, ap length w ∙ length-append u (drop (length u) o)),
-  ap₂ take e w ∙ take-at u (drop (length u) o) (length u) refl,
-)
-
 pub given-for : (w : Witness) (before : Lent) {after : Lent} {R r a b : ℕ} {none : Bool} {f : Fault} → f ≡ sound → none ≡ isAbsent w → r ≡ R
     → a ≡ length (prefixOf w) → b ≡ length (periodOf w)
     → after .opening ≡ filled f (prefixOf w) (before .opening) → after .period ≡ filled f (periodOf w) (before .period) → GivenFor R w after none r a b
 given-for w before {after} {a = a} {b = b} e n c i j o p = record { absence = n; counted = c; prefix-is = i; period-is = j; prefix-in = x .0; period-in = y .0; prefix = x .1; period = y .1 }
   where
     x : (a ≤ length (after .opening)) × (take a (after .opening) ≡ prefixOf w)
-    x = front (prefixOf w) (before .opening) i (o ∙ ap (λ (f : Fault). filled f (prefixOf w) (before .opening)) e)
+    x = filled-front (prefixOf w) (before .opening) e i o
 
     y : (b ≤ length (after .period)) × (take b (after .period) ≡ periodOf w)
-    y = front (periodOf w) (before .period) j (p ∙ ap (λ (f : Fault). filled f (periodOf w) (before .period)) e)
+    y = filled-front (periodOf w) (before .period) e j p
 
 -- the witness, by the answer
 pub for-absent : {R : ℕ} (w : Witness) {l : Lent} {r a b : ℕ} → GivenFor R w l true r a b → w ≡ absent

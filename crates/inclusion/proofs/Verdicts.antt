@@ -1,14 +1,19 @@
--- The four numbers of an answer are where the sheets' own verdicts are given on the lasso that the slices hold; 0 where there is none, and for
--- emptiness, which has no second sheet. Assumes nothing.
-use mathlib.Core.Path.{_≡_, refl, ap, _∙_}
+-- The counterexample of two sheets is a lasso over at most 32 letters. The four numbers of an answer are where the sheets' own verdicts are given
+-- on the lasso that the slices hold; 0 where there is none, and for emptiness, which has no second sheet. Assumes nothing.
+use mathlib.Core.Path.{_≡_, refl, ap, subst, _∙_}
 use mathlib.Core.List.{List}
 use Prim.Native.Nat.{ℕ}
 use lib.ListN.{length, take}
 use Rattle.slices.specs.declared.Part.the-variants as part
+use Rattle.slices.specs.Refusals.{sound}
 use Rattle.slices.proofs.Refusals.{then-left}
+use Rattle.fdfa.specs.Family.{Lasso}
 use Rattle.fdfa.specs.Acceptance.{verdict}
-use Rattle.fdfa.specs.Enumeration.{Witness}
-use Rattle.fdfa.specs.Inclusion.{nowhere, standing, comparison, emptiness}
+use Rattle.fdfa.specs.Enumeration.{Witness, lasso}
+use Rattle.fdfa.specs.Inclusion.{Counterexample, Answers, nowhere, standing, comparison, emptiness}
+use Rattle.fdfa.proofs.Letters.{lasso-more}
+use Rattle.fdfa.proofs.Inclusion.{comparison-answers}
+use Rattle.fdfa.proofs.Emptiness.{answers-first}
 use Rattle.fdfa.proofs.Standing.{given-at, comparison-standing, emptiness-standing}
 use Rattle.packed.specs.Layout.{decode}
 use Rattle.packed.specs.Faults.{sheetFault, pairFault}
@@ -20,6 +25,13 @@ use Rattle.inclusion.specs.declared.Comparison.{Comparison}
 use Rattle.inclusion.specs.declared.Outcome.the-variants.{Absent, Found}
 use Rattle.inclusion.specs.Calls.{Slices, compareStart, emptyStart, Compared, Emptied}
 use Rattle.inclusion.proofs.Settling.{for-absent, for-lasso, settled-given, settled-for}
+
+pub missing-lasso : (b c : List ℕ) {u v : List ℕ} → pairFault b c ≡ sound → comparison (decode b) (decode c) .witness ≡ lasso u v → Lasso 32 u v
+missing-lasso b c e d =
+    let A = sound-alike b c e in
+    let F = valid-packable b (A .first) in
+    let x = comparison-answers (decode b) (decode c) (A .letters) (F .complete) (valid-packable c (A .second) .complete) in
+    lasso-more (F .few-letters) (answers-first (subst (Answers (Counterexample (decode b) (decode c))) d x) .has .lasso)
 
 -- where a sheet's verdict is given on the lasso that the slices hold
 abbrev pub judgedAt : List ℕ → Slices → Comparison → Standing

@@ -1,11 +1,9 @@
 -- What the call for a verdict says, for any bytes as sheet, prefix and period. Assumes nothing.
 use mathlib.Core.List.{List}
 use Prim.Native.Nat.{ℕ}
-use lib.Dec.{eqb}
-use lib.ListN.{length}
-use Rattle.slices.specs.declared.Part.the-variants.{First, Opening, Loop}
-use Rattle.slices.specs.Refusals.{Fault, _then_, when, Result, given, refused, unless}
-use Rattle.slices.specs.Scans.{scan}
+use Rattle.slices.specs.declared.Part.the-variants.{First}
+use Rattle.slices.specs.Refusals.{Fault, _then_, Result, given, refused, unless}
+use Rattle.slices.specs.LassoLetters.{lettersFault}
 use Rattle.fdfa.specs.Acceptance.{Verdict, verdict}
 use Rattle.packed.specs.declared.Sizes.{Sizes}
 use Rattle.packed.specs.Layout.{letterCount, decode}
@@ -15,13 +13,9 @@ use Rattle.membership.specs.declared.Checked.the-variants as checked
 use Rattle.membership.specs.declared.Judgement.{Judgement}
 use Rattle.membership.specs.declared.Judgement.the-variants as judgement
 
--- The sheet's refusals, then a letter of the prefix that the sheet has not, an empty period, a letter of the period.
+-- The sheet's refusals, then those of the lasso: a letter of the prefix that the sheet has not, an empty period, a letter of the period.
 unfoldable pub lassoFault : List ℕ → List ℕ → List ℕ → Fault
-lassoFault b u v =
-    sheetFault First b
-    then scan 9 Opening 0 (letterCount b) u 0 (length u)
-    then when (eqb (length v) 0) 8 Loop 0
-    then scan 9 Loop 0 (letterCount b) v 0 (length v)
+lassoFault b u v = sheetFault First b then lettersFault (letterCount b) u v
 
 -- What the check of a sheet and a lasso says: the sheet's sizes, or the refusal.
 abbrev pub checkedLasso : List ℕ → List ℕ → List ℕ → Result Sizes

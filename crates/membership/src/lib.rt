@@ -1,9 +1,10 @@
 // Membership of a lasso: whether a family of DFAs accepts the pair of a prefix and a period, with its normalization.
 use packed::Sizes;
 use packed::Validity;
+use slices::Letters;
 use slices::Part;
 use slices::Refusal;
-use slices::refuse;
+use slices::check_lasso;
 ghost use mathlib.Core.Path.{_≡_};
 ghost use Prim.Native.Nat.{_<_};
 ghost use Rattle.fdfa.specs.Words.{Over};
@@ -54,18 +55,11 @@ pub fn check(sheet: &[u8], prefix: &[u8], period: &[u8]) -> Checked
         Validity::Refused(r) => Checked::Refused(r),
         Validity::Valid(sizes) => {
             let s = sizes.letters;
-            let i = slices::first_unknown(prefix, s);
-            if i < prefix.len() {
-                return Checked::Refused(refuse(9, Part::Opening, i));
+            let letters = check_lasso(prefix, period, s);
+            match letters {
+                Letters::Refused(r) => Checked::Refused(r),
+                Letters::Known => Checked::Lasso(sizes),
             }
-            if period.len() == 0 {
-                return Checked::Refused(refuse(8, Part::Loop, 0));
-            }
-            let j = slices::first_unknown(period, s);
-            if j < period.len() {
-                return Checked::Refused(refuse(9, Part::Loop, j));
-            }
-            Checked::Lasso(sizes)
         }
     }
 }

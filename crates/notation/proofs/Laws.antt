@@ -8,10 +8,9 @@ use lib.Dec.{eqb, ltb}
 use lib.ListN.{length, length-append}
 use borrow.Author.Tests.{eq-eqb, eqb-true}
 use Rattle.slices.specs.declared.Part.the-variants.{First, Out}
-use Rattle.slices.specs.declared.Refusal.{Refusal}
 use Rattle.fdfa.specs.Family.{Fdfa, Agrees}
-use Rattle.slices.specs.Refusals.{Fault, sound, fault, _then_, when, Result, given, refused}
-use Rattle.slices.proofs.Refusals.{passed, then-left}
+use Rattle.slices.specs.Refusals.{Fault, sound, fault, when, Result, given, refused}
+use Rattle.slices.proofs.Refusals.{passed, then-left, never-given, given-was}
 use Rattle.slices.specs.Tables.{tab, rows, table}
 use Rattle.slices.proofs.Tables.{tab-same, rows-same}
 use Rattle.packed.specs.Layout.{decode, mark, partBytes, pack, Valid, Packable}
@@ -99,17 +98,6 @@ text-numbers level small F P =
     whole false e = absurd (true≢false (sym e))
 
 -- what is read fits, and its text is what was read
-abbrev IsRefused : Result Numbers → Type 0
-IsRefused (given v) = ⊥
-IsRefused (refused r) = Unit {0}
-
-never-given : {r : Refusal} {v : Numbers} → refused r ≡ given v → ⊥
-never-given d = subst IsRefused d tt
-
-abbrev numbersOr : Numbers → Result Numbers → Numbers
-numbersOr d (given v) = v
-numbersOr d (refused r) = d
-
 pub record ReadWhole (t : List ℕ) (v : Numbers) : Type 0 where
   pub whole : Whole (v .front) (v .parts)
   pub text : t ≡ printed (frontFormat 3) (v .front) ++ printed (partsFormat (v .front)) (v .parts)
@@ -127,7 +115,7 @@ numbers-was t v d = front (reading First t (frontFormat 3) 0) refl d
         let stop : g .next ≡ length t = eqb-true (g .next) (length t) e in
         let a : At t 0 (p ++ q) = at-append t 0 p q (x .here) (subst (λ (z : ℕ). At t z q) (x .next) (y .here)) in
         let long : length (p ++ q) ≡ length t = omega (arith, length-append p q, x .next, y .next, stop) in
-        subst (ReadWhole t) (ap (numbersOr v) k) (record { whole = record { first = x .fits; second = y .fits }; text = at-whole t (p ++ q) a long })
+        subst (ReadWhole t) (given-was k) (record { whole = record { first = x .fits; second = y .fits }; text = at-whole t (p ++ q) a long })
 
     rest : (f : Found) → Read t (frontFormat 3) 0 f → (z : Result Found) → reading First t (partsFormat (f .values)) (f .next) ≡ z → ended t (f .values) z ≡ given v → ReadWhole t v
     rest f x (refused r) e k = absurd (never-given k)

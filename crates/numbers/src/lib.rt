@@ -8,6 +8,7 @@ pub use reading::number_at;
 use slices::Refusal;
 pub use writing::put;
 pub use writing::put_field;
+pub use writing::width;
 
 // The number at a place, with the place after it; or the refusal.
 pub enum Number {

@@ -25,7 +25,7 @@ fn digit(d: usize) -> u8
 }
 
 // How many digits a number has.
-fn width(n: usize) -> usize
+pub fn width(n: usize) -> usize
     ensures { λ r. ⌜ (r ≡ length (digitsOf n)) × (r ≤ 20) ⌝ }
 {
     let mut w = 1;

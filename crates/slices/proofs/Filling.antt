@@ -198,6 +198,17 @@ fill-given new {old} e l d = record {
   cells = d ∙ ap (λ (x : Fault). filled x new old) (sym e);
 }
 
+-- what was filled is the front of the slice
+pub filled-front : (u old : List ℕ) {f : Fault} {out : List ℕ} {k : ℕ} → f ≡ sound → k ≡ length u → out ≡ filled f u old → (k ≤ length out) × (take k out ≡ u)
+unfolding written
+filled-front u old {out = out} e h d = (
+  omega (arith, ap length w, length-append u (drop (length u) old)),
+  ap₂ take h w ∙ take-append-seam u (drop (length u) old),
+)
+  where
+    w : out ≡ u ++ drop (length u) old
+    w = d ∙ ap (λ (x : Fault). filled x u old) e
+
 pub fills-as : {f g : Fault} {new old out : List ℕ} {r : Written} → f ≡ g → Fills f new old out r → Fills g new old out r
 fills-as {new = new} {old = old} {out = out} {r = r} e h = subst (λ (x : Fault). Fills x new old out r) e h
 

@@ -50,6 +50,16 @@ module _ {A : Type 0} where
   Refuses (given a) = ⊥
   Refuses (refused r) = Unit {0}
 
+  -- an answer is no refusal, and equal ones have equal parts
+  pub never-given : {r : Refusal} {a : A} → refused r ≡ given a → ⊥
+  never-given e = subst Refuses e tt
+
+  pub given-was : {a b : A} → given a ≡ given b → a ≡ b
+  given-was e = cc
+
+  pub refused-was : {r s : Refusal} → _≡_ {A = Result A} (refused r) (refused s) → r ≡ s
+  refused-was e = cc
+
   -- what an answer, or a refusal, says of the tests
   pub was-given : (f : Fault) (z : A) {a : A} → given a ≡ unless f z → (f ≡ sound) × (a ≡ z)
   was-given sound z e = (refl, cc)

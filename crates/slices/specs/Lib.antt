@@ -3,3 +3,4 @@ pub mod Filling
 pub mod Tables
 pub mod Extremes
 pub mod Scans
+pub mod LassoLetters

@@ -1,9 +1,11 @@
 // What all calls share, below the model: refusals, numbers of other widths, scans of a slice and the filling of one.
 mod copying; // copying.rt: copies of a slice
 mod scanning; // scanning.rt: the first byte of a slice that is out of a range
+mod lassos; // lassos.rt: the letters of a lasso
 
 pub use copying::copy;
 pub use copying::narrow_copy;
+pub use lassos::check_lasso;
 pub use scanning::first_outside;
 pub use scanning::first_unknown;
 pub use scanning::is_outside;
@@ -31,6 +33,12 @@ pub struct Refusal {
 // What a call that fills the out slice answers: the length filled, or the refusal.
 pub enum Written {
     Filled(usize),
+    Refused(Refusal),
+}
+
+// Whether a lasso is one over some letters, or the refusal.
+pub enum Letters {
+    Known,
     Refused(Refusal),
 }
 

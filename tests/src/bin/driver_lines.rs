@@ -2,12 +2,14 @@
 //!
 //! driver_lines stored STDIN STDOUT                        a stored input and output agree with what is due
 //! driver_lines random COUNT [SEED] [--driver PATH]        lines at random through one run of the driver (else FDFA_DRIVER is its path)
+//! driver_lines changes [--driver PATH]                    every change of one byte of a sheet's text and of a show's, in the same way
 //! driver_lines rows [STDIN STDOUT]                        the rows to store, each with what is due; or both into two files
 //! driver_lines line SEED                                  one line at random, with what is due
 //! driver_lines answer [--wrong KIND]                      stands in for the driver, with a fault or without
 //! driver_lines self-test                                  damages and wrong stand-ins are found; every outcome is met often
 
 use outside::driver::calls::{answer, lines};
+use outside::driver::changes::changed_lines;
 use outside::driver::coverage::Coverage;
 use outside::driver::damaged_answer::{damages, KINDS};
 use outside::driver::random_line::Sent;
@@ -28,6 +30,7 @@ fn main() -> ExitCode {
     let result = match words.as_slice() {
         ["stored", input, output] => stored(input, output),
         ["random", rest @ ..] => random(rest),
+        ["changes", rest @ ..] => changes(rest),
         ["rows"] => print_rows(),
         ["rows", input, output] => store_rows(input, output),
         ["line", seed] => number(seed).map(one_line),
@@ -35,7 +38,7 @@ fn main() -> ExitCode {
         ["answer", "--wrong", kind] => stand_in::run(Some(kind)),
         ["self-test"] => self_test(),
         _ => {
-            Err("usage: driver_lines stored STDIN STDOUT | random COUNT [SEED] [--driver PATH] | rows | self-test"
+            Err("usage: driver_lines stored STDIN STDOUT | random COUNT [SEED] [--driver PATH] | changes | rows | self-test"
                 .into())
         }
     };
@@ -74,19 +77,44 @@ fn stored(input: &str, output: &str) -> Result<(), String> {
 }
 
 fn random(words: &[&str]) -> Result<(), String> {
-    let (words, driver) = match words {
-        [words @ .., "--driver", path] => (words, path.to_string()),
-        _ => (words, env::var("FDFA_DRIVER").map_err(|_| "no driver: give --driver PATH or set FDFA_DRIVER")?),
-    };
+    let (words, driver) = driver(words)?;
     let (count, seed) = match words {
         [count] => (number(count)?, SEED),
         [count, seed] => (number(count)?, number(seed)?),
         _ => return Err("random takes COUNT and at most a SEED".to_string()),
     };
-    let began = Instant::now();
     // With an odd seed the last line has no line feed.
-    let report = hold(Command::new(driver), random_lines(seed, count as usize), seed % 2 == 0)?;
-    println!("{report} (seed {seed}, {:.1} s)", began.elapsed().as_secs_f64());
+    send(driver, random_lines(seed, count as usize), seed % 2 == 0, &format!("seed {seed}"))
+}
+
+fn changes(words: &[&str]) -> Result<(), String> {
+    let (words, driver) = driver(words)?;
+    if !words.is_empty() {
+        return Err("changes takes no words but the driver's path".to_string());
+    }
+    send(driver, changed_lines(), true, "changes of one byte")
+}
+
+/// The words but the driver's path, and that path.
+fn driver<'a>(words: &'a [&'a str]) -> Result<(&'a [&'a str], String), String> {
+    match words {
+        [words @ .., "--driver", path] => Ok((words, path.to_string())),
+        _ => {
+            let path = env::var("FDFA_DRIVER").map_err(|_| "no driver: give --driver PATH or set FDFA_DRIVER")?;
+            Ok((words, path))
+        }
+    }
+}
+
+fn send(
+    driver: String,
+    lines: impl Iterator<Item = Sent> + Send + 'static,
+    ended: bool,
+    of: &str,
+) -> Result<(), String> {
+    let began = Instant::now();
+    let report = hold(Command::new(driver), lines, ended)?;
+    println!("{report} ({of}, {:.1} s)", began.elapsed().as_secs_f64());
     agreed(&report)
 }
 
@@ -123,7 +151,7 @@ fn self_test() -> Result<(), String> {
 fn find_damages() -> Result<(), String> {
     const LINES: usize = 4000;
     let mut found: BTreeMap<&str, usize> = BTreeMap::new();
-    for Sent { seed, line, due } in random_lines(SEED, LINES).filter(|sent| sent.due.len() < 5000) {
+    for Sent { name, line, due } in random_lines(SEED, LINES).filter(|sent| sent.due.len() < 5000) {
         let mut whole = due.clone();
         whole.push(b'\n');
         for (kind, mut damaged) in damages(&due) {
@@ -132,7 +160,7 @@ fn find_damages() -> Result<(), String> {
             report.take("", &line, &due, &whole);
             report.take("", &line, &due, &damaged);
             if report.mismatches != 1 {
-                return Err(format!("seed {seed}: a damaged {kind} was not found, or one where there is none"));
+                return Err(format!("{name}: a damaged {kind} was not found, or one where there is none"));
             }
             *found.entry(kind).or_default() += 1;
         }

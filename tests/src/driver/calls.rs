@@ -1,7 +1,7 @@
 //! The table of calls, and what the driver prints for a line.
 
 use crate::driver::line::{NoCall, LONGEST_LINE};
-use crate::driver::{boolean, cursor, inclusion, membership, notation};
+use crate::driver::{boolean, cursor, inclusion, membership, notation, shows};
 use crate::inclusion::Search;
 use crate::random::Random;
 use crate::sheet::{Part, Refusal};
@@ -34,7 +34,7 @@ const PRODUCT: &[&[&str]] = &[&["filled"], FIRST, SECOND, &["refused 7 second", 
 const LASSO_FOUND: &[&str] = &["refused 22 work", "refused 23 opening", "refused 23 loop"];
 /// What fills the out slice, and what searches for a lasso.
 const OUT: &[Part] = &[Part::Out];
-const SHOW: &[Part] = &[Part::Opening, Part::Loop, Part::Work];
+const LASSO: &[Part] = &[Part::Opening, Part::Loop, Part::Work];
 
 pub const CALLS: &[Call] = &[
     Call {
@@ -71,14 +71,14 @@ pub const CALLS: &[Call] = &[
         answer: inclusion::compare,
         random: inclusion::random_compare,
         outcomes: &[&["contained", "missing"], FIRST, SECOND, &["refused 7 second"], LASSO_FOUND],
-        lent: SHOW,
+        lent: LASSO,
     },
     Call {
         name: "emptiness",
         answer: inclusion::emptiness,
         random: inclusion::random_emptiness,
         outcomes: &[&["empty", "found"], FIRST, LASSO_FOUND],
-        lent: SHOW,
+        lent: LASSO,
     },
     Call {
         name: "start",
@@ -123,6 +123,23 @@ pub const CALLS: &[Call] = &[
         answer: notation::write,
         random: notation::random_write,
         outcomes: &[&["filled"], FIRST, &["refused 21 out"]],
+        lent: OUT,
+    },
+    Call {
+        name: "read-show",
+        answer: shows::read_show,
+        random: shows::random_read_show,
+        outcomes: &[
+            &["filled", "refused 8 first", "refused 9 first", "refused 11 first"],
+            &["refused 21 opening", "refused 21 loop"],
+        ],
+        lent: &[Part::Opening, Part::Loop],
+    },
+    Call {
+        name: "write-show",
+        answer: shows::write_show,
+        random: shows::random_write_show,
+        outcomes: &[&["filled", "refused 9 opening", "refused 8 loop", "refused 9 loop", "refused 21 out"]],
         lent: OUT,
     },
 ];

@@ -8,7 +8,7 @@ use std::fmt;
 const OTHER: &str = "other lines";
 const NO_CALL: &str = "no call";
 const COMMENT: &str = "comment";
-/// Added to an outcome where a lent slice is exactly as long as needed, or one cell too short.
+/// Added to an outcome where each lent slice is exactly as long as needed, or one is one cell too short.
 const JUST_ENOUGH: &str = ", just enough room";
 const ONE_TOO_FEW: &str = ", one cell too few";
 /// Added to an outcome where the lasso found takes the sheets to states that are all above 0 and no two alike.
@@ -81,7 +81,7 @@ fn needs_room(outcome: &str) -> bool {
     refused || ["filled", "missing", "found"].contains(&outcome)
 }
 
-/// Whether the lent slice that the answer speaks of is exactly as long as needed, or one cell too short.
+/// Whether the lent slices that the answer speaks of are exactly as long as needed, or the one refused is one cell too short.
 fn room(call: &Call, due: &str) -> Option<&'static str> {
     let (answer, printed) = due.split_once(" | ")?;
     let lengths: Vec<usize> = printed.split(' ').map(length).collect();
@@ -92,7 +92,7 @@ fn room(call: &Call, due: &str) -> Option<&'static str> {
             let at = call.lent.iter().position(|part| part.name() == words[2])?;
             (lengths[at] + 1 == number(3)?).then_some(ONE_TOO_FEW)
         }
-        "filled" => (lengths[0] == number(1)?).then_some(JUST_ENOUGH),
+        "filled" => (0..lengths.len()).all(|at| number(1 + at) == Some(lengths[at])).then_some(JUST_ENOUGH),
         "missing" | "found" => ((lengths[0], lengths[1]) == (number(2)?, number(3)?)).then_some(JUST_ENOUGH),
         _ => None,
     }

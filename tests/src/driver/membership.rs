@@ -8,6 +8,7 @@ use crate::driver::random_sheets::sheet;
 use crate::generate::{self, Draft};
 use crate::inclusion::Search;
 use crate::mix::of_sizes;
+use crate::printed::verdict_words;
 use crate::random::Random;
 use crate::sheet::{Part, Sheet, MOST};
 
@@ -22,10 +23,7 @@ pub fn check(words: &[&[u8]], _: &mut Search) -> Result<String, NoCall> {
 pub fn verdict(words: &[&[u8]], _: &mut Search) -> Result<String, NoCall> {
     let [sheet, prefix, period] = byte_slices(words)?;
     Ok(match crate::verdict::verdict(&sheet, &prefix, &period) {
-        Ok(given) => {
-            let word = if given.accepted { "accepted" } else { "rejected" };
-            format!("{word} {} {} {} {}", given.before, given.turns, given.leading, given.end)
-        }
+        Ok(given) => verdict_words(&given),
         Err(refusal) => refused(refusal),
     })
 }

@@ -1,12 +1,13 @@
 //! The program `driver` held to the independent implementation: one line in, one line out.
 //!
-//! `line` has the words of a line; `calls` the table of calls and what a line prints; `membership`, `boolean`, `inclusion`, `cursor` and
-//! `notation` answer the calls of their subject and make lines for them at random. `random_line` mixes those with damaged lines and
-//! comments, `session` sends lines through one run of the driver, `report` compares what it prints, `coverage` counts the outcomes,
-//! and `rows` has the lines that are stored.
+//! `line` has the words of a line; `calls` the table of calls and what a line prints; `membership`, `boolean`, `inclusion`, `cursor`,
+//! `notation` and `shows` answer the calls of their subject and make lines for them at random. `random_line` mixes those with damaged
+//! lines and comments, `changes` has every change of one byte of two texts, `session` sends lines through one run of the driver,
+//! `report` compares what it prints, `coverage` counts the outcomes, and `rows` has the lines that are stored.
 
 pub mod boolean;
 pub mod calls;
+pub mod changes;
 pub mod coverage;
 pub mod cursor;
 pub mod damaged_answer;
@@ -17,8 +18,10 @@ pub mod membership;
 pub mod notation;
 pub mod random_line;
 pub mod random_sheets;
+pub mod random_show;
 pub mod random_text;
 pub mod report;
 pub mod rows;
 pub mod session;
+pub mod shows;
 pub mod stand_in;

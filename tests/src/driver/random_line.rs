@@ -7,9 +7,9 @@ use crate::driver::line::{print, Cell, NoCall, LONGEST_LINE};
 use crate::inclusion::Search;
 use crate::random::Random;
 
-/// A line and what is due for it, both without the line feed, and the seed that makes the line again.
+/// A line and what is due for it, both without the line feed, and what it is called in a report: the seed that makes it again.
 pub struct Sent {
-    pub seed: u64,
+    pub name: String,
     pub line: Vec<u8>,
     pub due: Vec<u8>,
 }
@@ -22,7 +22,8 @@ impl Sent {
             let line = draw(&mut random, search);
             let judged = judge(&line, search);
             if line.len() < LONGEST_LINE && judged != Err(NoCall::Long) {
-                return Sent { seed, line, due: judged.unwrap_or_else(|_| b"no call".to_vec()) };
+                let due = judged.unwrap_or_else(|_| b"no call".to_vec());
+                return Sent { name: format!("seed {seed}"), line, due };
             }
         }
     }

@@ -1,4 +1,5 @@
-//! Texts at random: digits with what may stand beside them, and sheets' texts with a fault in every kind of place.
+//! Texts at random: digits with what may stand beside them, and sheets' texts with a fault in every kind of place. Faults that any text
+//! can have serve for shows' texts too.
 
 use crate::driver::line::Cell;
 use crate::random::Random;
@@ -7,6 +8,34 @@ use crate::random::Random;
 const DIGITS: [&str; 14] =
     ["0", "7", "9", "10", "42", "99", "100", "805", "999", "1000", "00", "01", "007", "18446744073709551617"];
 const OTHERS: [&[u8]; 9] = [b" ", b"\n", b"\r", b"/", b":", b"s", b"\xb1", b"\0", b"-"];
+
+/// What may stand where a number is due: numbers in range and out of it, of good and bad form, and no numbers.
+pub const NUMBERS: [&str; 24] = [
+    "0",
+    "1",
+    "2",
+    "3",
+    "4",
+    "5",
+    "31",
+    "32",
+    "33",
+    "40",
+    "99",
+    "256",
+    "258",
+    "999",
+    "1000",
+    "1234",
+    "00",
+    "01",
+    "033",
+    "",
+    "-1",
+    "+1",
+    "x",
+    "4294967297",
+];
 
 /// A text, and a place in it where digits begin.
 pub fn any_text(random: &mut Random) -> (Vec<u8>, usize) {
@@ -38,7 +67,7 @@ pub fn damaged(random: &mut Random, text: Vec<u8>) -> Vec<u8> {
     }
 }
 
-fn split(text: &[u8], at: u8) -> Vec<Vec<u8>> {
+pub fn split(text: &[u8], at: u8) -> Vec<Vec<u8>> {
     text.split(|&byte| byte == at).map(<[u8]>::to_vec).collect()
 }
 
@@ -63,32 +92,6 @@ fn with_other_number(random: &mut Random, text: &[u8]) -> Vec<u8> {
 }
 
 fn other_number(random: &mut Random, word: &[u8]) -> Vec<u8> {
-    const OTHERS: [&str; 24] = [
-        "0",
-        "1",
-        "2",
-        "3",
-        "4",
-        "5",
-        "31",
-        "32",
-        "33",
-        "40",
-        "99",
-        "256",
-        "258",
-        "999",
-        "1000",
-        "1234",
-        "00",
-        "01",
-        "033",
-        "",
-        "-1",
-        "+1",
-        "x",
-        "4294967297",
-    ];
     let value: usize = String::from_utf8_lossy(word).parse().expect("the text is that of a sheet");
     match random.below(8) {
         0 => (value + 1).to_string(),
@@ -100,13 +103,13 @@ fn other_number(random: &mut Random, word: &[u8]) -> Vec<u8> {
             let value = random.pick(&[value, value, 40, 999]);
             format!("{value}{}", random.pick(&["x", " ", "\n", "\r", "\t", ":", "/", "."]))
         }
-        _ => random.pick(&OTHERS).to_string(),
+        _ => random.pick(&NUMBERS).to_string(),
     }
     .into_bytes()
 }
 
 /// One byte more, less or changed, mostly in a line of names.
-fn with_other_byte(random: &mut Random, mut text: Vec<u8>) -> Vec<u8> {
+pub fn with_other_byte(random: &mut Random, mut text: Vec<u8>) -> Vec<u8> {
     let names: Vec<usize> = (0..text.len()).filter(|&at| text[at].is_ascii_alphabetic()).collect();
     let at = if random.once_in(2) { random.pick(&names) } else { random.below(text.len()) };
     let byte = random.pick(b"0123456789 \n\r\tsxS_,\0\xff");
@@ -120,7 +123,7 @@ fn with_other_byte(random: &mut Random, mut text: Vec<u8>) -> Vec<u8> {
 }
 
 /// A line missing, twice, or changed with another.
-fn with_other_lines(random: &mut Random, text: &[u8]) -> Vec<u8> {
+pub fn with_other_lines(random: &mut Random, text: &[u8]) -> Vec<u8> {
     let mut lines = split(text, b'\n');
     let (at, other) = (random.below(lines.len()), random.below(lines.len()));
     match random.below(4) {
@@ -133,7 +136,7 @@ fn with_other_lines(random: &mut Random, text: &[u8]) -> Vec<u8> {
 }
 
 /// The text cut off somewhere, or going on.
-fn with_other_end(random: &mut Random, mut text: Vec<u8>) -> Vec<u8> {
+pub fn with_other_end(random: &mut Random, mut text: Vec<u8>) -> Vec<u8> {
     match random.below(4) {
         0 if random.once_in(32) => text.resize(u8::LONGEST.max(text.len()), b'0'),
         0 => text.truncate(text.len() - 1),

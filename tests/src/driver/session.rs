@@ -68,10 +68,10 @@ fn take(output: impl Read, taker: Sender<Vec<u8>>) {
 
 fn compare(sent: Receiver<Sent>, printed: Receiver<Vec<u8>>) -> Report {
     let mut report = Report::default();
-    for Sent { seed, line, due } in sent {
+    for Sent { name, line, due } in sent {
         // Nothing comes once the output has ended.
         let printed = printed.recv().unwrap_or_default();
-        report.take(&format!(" of seed {seed}"), &line, &due, &printed);
+        report.take(&format!(" ({name})"), &line, &due, &printed);
         if printed.is_empty() {
             return report;
         }

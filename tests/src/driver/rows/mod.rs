@@ -5,6 +5,7 @@
 mod forms;
 mod refusals;
 mod searches;
+mod shows;
 mod standings;
 mod texts;
 mod tries;
@@ -13,6 +14,9 @@ use crate::driver::calls::{answer, lines};
 use crate::driver::line::print;
 use crate::inclusion::Search;
 use crate::rows::{complemented, A, B, C, D, E, HALL, LEFT, RIGHT};
+
+pub use shows::TEN_LINES;
+pub use texts::TEXT_OF_B;
 
 pub struct Row {
     pub line: String,
@@ -27,6 +31,7 @@ pub fn rows() -> Vec<Row> {
     rows.extend(standings::rows());
     rows.extend(texts::rows());
     rows.extend(forms::rows());
+    rows.extend(shows::rows());
     rows
 }
 
@@ -60,6 +65,22 @@ fn row(line: &str, stated: &str) -> Row {
 fn table(rows: &[(impl AsRef<str>, &str)]) -> Vec<Row> {
     let made = |line: &str, stated: &str| if stated.is_empty() { note(line) } else { row(line, stated) };
     rows.iter().map(|(line, stated)| made(line.as_ref(), stated)).collect()
+}
+
+/// Rows for a text in which one piece is changed: what stands in it, what takes its place, and the refusal, number and place. Where no
+/// refusal is given, the first is a note. The row is made of the changed text and what is stated of it.
+fn edited(text: &str, edits: &[(&str, &str, &str)], row: impl Fn(&str, &str) -> Row) -> Vec<Row> {
+    let mut rows = Vec::new();
+    for &(old, new, refusal) in edits {
+        let Some((number, place)) = refusal.split_once(' ') else {
+            rows.push(note(old));
+            continue;
+        };
+        let changed = text.replacen(old, new, 1);
+        assert_ne!(changed, text);
+        rows.push(row(&changed, &format!("refused {number} first {place}")));
+    }
+    rows
 }
 
 fn expanded(word: &str) -> String {

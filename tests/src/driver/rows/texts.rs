@@ -1,6 +1,6 @@
 //! The sheet as text: 01's text, its refusals and their places, texts that end early, and numbers.
 
-use super::{note, plain, row, table, Row};
+use super::{edited, note, plain, row, table, Row};
 use crate::driver::line::print;
 
 /// The texts of 01's sheets; B's stands in 01 itself.
@@ -15,10 +15,10 @@ pub const TEXTS: [(&str, &str); 5] = [
     ),
 ];
 
-const TEXT_OF_B: &str =
+pub const TEXT_OF_B: &str =
     "level scenes places\n3 2 1\nplace loops s0 s1\n0 2 0 0\nplace loop mark s0 s1\n0 0 0 1 0\n0 1 1 1 1\n";
 
-/// What stands in B's text, what takes its place, and the refusal: number and place. An empty number is a note.
+/// Changes of B's text.
 const EDITS: &[(&str, &str, &str)] = &[
     ("text: 10 for the level", "", ""),
     ("3 2 1", "2 2 1", "10 20"),
@@ -101,15 +101,7 @@ const EDITS: &[(&str, &str, &str)] = &[
 
 pub fn rows() -> Vec<Row> {
     let mut rows = both_ways();
-    for &(old, new, refusal) in EDITS {
-        let Some((number, place)) = refusal.split_once(' ') else {
-            rows.push(note(old));
-            continue;
-        };
-        let text = TEXT_OF_B.replacen(old, new, 1);
-        assert_ne!(text, TEXT_OF_B);
-        rows.push(read(&text, &format!("refused {number} first {place} | 11*9")));
-    }
+    rows.extend(edited(TEXT_OF_B, EDITS, |text, refused| read(text, &format!("{refused} | 11*9"))));
     rows.push(note(
         "text: E has three places of one loop place each: below 3 in the second block, below 1 in the third",
     ));

@@ -1,7 +1,8 @@
 -- `compare::text::put_standing` meets its contract. Assumes nothing.
 use Prim.Native.Nat.{_<_}
 use native.Mathlib.Omega.{arith}
-use Rattle.compare.proofs.Blocks.{field-few, line-stored}
+use Rattle.console.proofs.Printed.{field-few}
+use Rattle.compare.proofs.Blocks.{line-stored}
 use borrow.Author.Needs.{needs}
 use Rattle.compare.proofs.text.put_standing.Statement.{statement}
 use Rattle.compare.proofs.text.put_standing.Tie as tie

@@ -1,7 +1,8 @@
 -- `compare::text::put_verdict` meets its contract. Assumes nothing.
 use Prim.Native.Nat.{_<_}
 use native.Mathlib.Omega.{arith}
-use Rattle.compare.proofs.Blocks.{field-few, verdict-stored}
+use Rattle.console.proofs.Printed.{field-few}
+use Rattle.compare.proofs.Blocks.{verdict-stored}
 use borrow.Author.Needs.{needs}
 use Rattle.compare.proofs.text.put_verdict.Statement.{statement}
 use Rattle.compare.proofs.text.put_verdict.Tie as tie

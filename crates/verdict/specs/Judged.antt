@@ -1,0 +1,27 @@
+-- What the verdict program says of the bytes of two files: a packed sheet, and the text of a lasso. Assumes nothing.
+use mathlib.Core.List.{List}
+use Prim.Native.Nat.{ℕ}
+use Rattle.slices.specs.declared.Part.the-variants.{First, Second}
+use Rattle.slices.specs.Refusals.{Fault, _then_, Result, unless}
+use Rattle.slices.specs.LassoLetters.{lettersFault}
+use Rattle.fdfa.specs.Acceptance.{Verdict, verdict}
+use Rattle.packed.specs.Layout.{letterCount, decode}
+use Rattle.packed.specs.Faults.{sheetFault}
+use Rattle.lasso_text.specs.Reading.{Words, wordsOf, wordsIn, readFault}
+
+-- The text is the second file.
+abbrev pub shown : List ℕ → Result Words
+shown t = wordsOf 32 Second t
+
+-- The verdict's own refusals of the words that were read: letters that the sheet has not.
+abbrev pub wordsFault : List ℕ → Words → Fault
+wordsFault b w = lettersFault (letterCount b) (w .prefix) (w .period)
+
+-- The sheet, then the text, then the room for prefix and period, then the letters that the sheet has not.
+abbrev pub fileFault : List ℕ → List ℕ → ℕ → ℕ → Fault
+fileFault b t o p = sheetFault First b then readFault (shown t) o p then wordsFault b (wordsIn (shown t))
+
+-- The verdict on the lasso of the text, or the refusal.
+unfoldable pub fileVerdict : List ℕ → List ℕ → ℕ → ℕ → Result Verdict
+fileVerdict b t o p =
+    unless (fileFault b t o p) (verdict (decode b) (wordsIn (shown t) .prefix) (wordsIn (shown t) .period))

@@ -1,0 +1,31 @@
+-- What the verdict program prints. Assumes nothing.
+use mathlib.Core.Bool.{Bool, true, false}
+use mathlib.Core.List.{List, [], _∷_, _++_}
+use Prim.Native.Nat.{ℕ}
+use Rattle.slices.specs.Refusals.{Result, given, refused}
+use Rattle.fdfa.specs.Acceptance.{Verdict}
+use Rattle.numbers.specs.Digits.{field}
+use Rattle.console.specs.Printed.{refusalText}
+use Rattle.verdict.specs.Judged.{fileVerdict}
+
+-- "verdict i j place end" and a line feed
+abbrev pub title : List ℕ
+title = 118 ∷ 101 ∷ 114 ∷ 100 ∷ 105 ∷ 99 ∷ 116 ∷ 32 ∷ 105 ∷ 32 ∷ 106 ∷ 32 ∷ 112 ∷ 108 ∷ 97 ∷ 99 ∷ 101 ∷ 32 ∷ 101 ∷ 110 ∷ 100 ∷ 10 ∷ []
+
+-- "accepted" and a space; "rejected" and a space
+abbrev pub word : Bool → List ℕ
+word true = 97 ∷ 99 ∷ 99 ∷ 101 ∷ 112 ∷ 116 ∷ 101 ∷ 100 ∷ 32 ∷ []
+word false = 114 ∷ 101 ∷ 106 ∷ 101 ∷ 99 ∷ 116 ∷ 101 ∷ 100 ∷ 32 ∷ []
+
+-- The line of names, then the verdict, i, j, the leading state and the state at the end.
+abbrev pub verdictBlock : Verdict → List ℕ
+verdictBlock x = title ++ word (x .accepted) ++ field (x .i) 32 ++ field (x .j) 32 ++ field (x .state) 32 ++ field (x .end) 10
+
+-- The block, or the refusal.
+abbrev pub verdictText : Result Verdict → List ℕ
+verdictText (given x) = verdictBlock x
+verdictText (refused r) = refusalText r
+
+-- What is printed for the bytes of two files, with room for 4,096 letters of each part.
+abbrev pub programText : List ℕ → List ℕ → List ℕ
+programText b t = verdictText (fileVerdict b t 4096 4096)
