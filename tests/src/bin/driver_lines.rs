@@ -2,7 +2,7 @@
 //!
 //! driver_lines stored STDIN STDOUT                        a stored input and output agree with what is due
 //! driver_lines random COUNT [SEED] [--driver PATH]        lines at random through one run of the driver (else FDFA_DRIVER is its path)
-//! driver_lines changes [--driver PATH]                    every change of one byte of a sheet's text and of a show's, in the same way
+//! driver_lines changes [--driver PATH]                    every change of one byte of a sheet's text and of a show's, and long shows, in the same way
 //! driver_lines rows [STDIN STDOUT]                        the rows to store, each with what is due; or both into two files
 //! driver_lines line SEED                                  one line at random, with what is due
 //! driver_lines answer [--wrong KIND]                      stands in for the driver, with a fault or without
@@ -12,6 +12,7 @@ use outside::driver::calls::{answer, lines};
 use outside::driver::changes::changed_lines;
 use outside::driver::coverage::Coverage;
 use outside::driver::damaged_answer::{damages, KINDS};
+use outside::driver::long_shows::long_lines;
 use outside::driver::random_line::Sent;
 use outside::driver::report::Report;
 use outside::driver::session::{hold, random_lines};
@@ -92,7 +93,7 @@ fn changes(words: &[&str]) -> Result<(), String> {
     if !words.is_empty() {
         return Err("changes takes no words but the driver's path".to_string());
     }
-    send(driver, changed_lines(), true, "changes of one byte")
+    send(driver, changed_lines().chain(long_lines()), true, "changes of one byte, long shows")
 }
 
 /// The words but the driver's path, and that path.

@@ -2,7 +2,7 @@
 //!
 //! `line` has the words of a line; `calls` the table of calls and what a line prints; `membership`, `boolean`, `inclusion`, `cursor`,
 //! `notation` and `shows` answer the calls of their subject and make lines for them at random. `random_line` mixes those with damaged
-//! lines and comments, `changes` has every change of one byte of two texts, `session` sends lines through one run of the driver,
+//! lines and comments, `changes` has every change of one byte of two texts, `long_shows` shows at the programs' bounds, `session` sends lines through one run of the driver,
 //! `report` compares what it prints, `coverage` counts the outcomes, and `rows` has the lines that are stored.
 
 pub mod boolean;
@@ -14,6 +14,7 @@ pub mod damaged_answer;
 pub mod damaged_line;
 pub mod inclusion;
 pub mod line;
+pub mod long_shows;
 pub mod membership;
 pub mod notation;
 pub mod random_line;
