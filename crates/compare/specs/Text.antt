@@ -56,13 +56,14 @@ answerText (refused r) w = refusalText r
 abbrev pub room : Slices
 room = record { opening = replicate 4096 0; period = replicate 4096 0; work = replicate 8192 0 }
 
--- What is printed for the bytes of two sheets: the answer to their comparison in that room.
+-- The comparison of two sheets, and what it is refused for in that room.
 abbrev pub compared : List ℕ → List ℕ → model.Comparison
 compared b c = model.comparison (decode b) (decode c)
 
 abbrev pub programFault : List ℕ → List ℕ → Fault
 programFault b c = callFault (compareStart b c (length (room .work))) (compared b c) room
 
+-- What is printed for the bytes of two sheets.
 unfoldable pub programText : List ℕ → List ℕ → List ℕ
 programText b c = answerText (unless (programFault b c) (answerOf (compared b c))) (compared b c .witness)
 

@@ -1,5 +1,5 @@
 -- Reading succeeds exactly on the texts of lassos, and reading and writing are inverse, in terms of what is refused. Assumes nothing.
-use mathlib.Core.Path.{_≡_, refl, ap, sym, subst, _∙_}
+use mathlib.Core.Path.{_≡_, refl, ap, sym, _∙_}
 use mathlib.Core.List.{List}
 use Prim.Native.Nat.{ℕ, _≤_}
 use native.Mathlib.Omega.{arith}
@@ -7,22 +7,18 @@ use lib.Dec.{ltb}
 use lib.ListN.{length}
 use Rattle.slices.specs.declared.Part.{Part}
 use Rattle.slices.specs.declared.Part.the-variants.{Out}
-use Rattle.slices.specs.Refusals.{Fault, sound, fault, when, Result, given, refused}
+use Rattle.slices.specs.Refusals.{sound, when, Result, given, refused}
 use Rattle.slices.specs.LassoLetters.{lettersFault}
-use Rattle.slices.proofs.Refusals.{passed, then-left}
+use Rattle.slices.proofs.Refusals.{passed, faulty, then-left}
 use Rattle.fdfa.proofs.Letters.{letters-lasso, lasso-letters}
 use Rattle.lasso_text.specs.Text.{lassoText, Readable}
 use Rattle.lasso_text.specs.Reading.{Words, wordsOf, wordsIn, textFault, roomFault, readFault}
 use Rattle.lasso_text.specs.Writing.{capped, writeFault}
 use Rattle.lasso_text.proofs.Texts.{text-words, words-was}
 
-abbrev Faulty : Fault → Type 0
-Faulty sound = ⊥
-Faulty (fault r) = Unit {0}
-
 sound-given : (x : Result Words) → textFault x ≡ sound → x ≡ given (wordsIn x)
 sound-given (given w) e = refl
-sound-given (refused r) e = absurd (subst Faulty e tt)
+sound-given (refused r) e = absurd (faulty e)
 
 module _ (s : ℕ) (part : Part) where
   -- the text of a lasso is not refused, its words are the lasso, and only the room is judged

@@ -9,8 +9,8 @@ use lib.ListN.{length, length-append}
 use borrow.Author.Tests.{eq-eqb, eqb-true}
 use Rattle.slices.specs.declared.Part.the-variants.{First, Out}
 use Rattle.fdfa.specs.Family.{Fdfa, Agrees}
-use Rattle.slices.specs.Refusals.{Fault, sound, fault, when, Result, given, refused}
-use Rattle.slices.proofs.Refusals.{passed, then-left, never-given, given-was}
+use Rattle.slices.specs.Refusals.{sound, when, Result, given, refused}
+use Rattle.slices.proofs.Refusals.{passed, faulty, then-left, never-given, given-was}
 use Rattle.slices.specs.Tables.{tab, rows, table}
 use Rattle.slices.proofs.Tables.{tab-same, rows-same}
 use Rattle.packed.specs.Layout.{decode, mark, partBytes, pack, Valid, Packable}
@@ -172,13 +172,9 @@ module _ (t : List ℕ) (v : Numbers) (d : numbersOf 3 t ≡ given v) where
   unfolding textOf
   read-text = ap textOf bytes-are ∙ (sym (text-same G (decode (pack G)) (decode-pack G packs)) ∙ family-text)
 
-abbrev Faulty : Fault → Type 0
-Faulty sound = ⊥
-Faulty (fault r) = Unit {0}
-
 sound-given : (x : Result Numbers) → faultIn x ≡ sound → (v : Numbers) × (x ≡ given v)
 sound-given (given v) d = (v, refl)
-sound-given (refused r) d = absurd (subst Faulty d tt)
+sound-given (refused r) d = absurd (faulty d)
 
 pub read-is : (t : List ℕ) (room : ℕ) → readFault t room ≡ sound → Valid (bytesOf t) × (textOf (bytesOf t) ≡ t)
 unfolding readFault

@@ -23,7 +23,7 @@ abbrev Faulty : Fault → Type 0
 Faulty sound = ⊥
 Faulty (fault r) = Unit {0}
 
-faulty : {r : Refusal} → fault r ≡ sound → ⊥
+pub faulty : {r : Refusal} → fault r ≡ sound → ⊥
 faulty e = subst Faulty e tt
 
 -- nothing is refused only where no test is met
