@@ -1,6 +1,6 @@
 -- What was judged on empty slices, then the room, then what is filled. Assumes nothing.
 use mathlib.Core.Path.{_≡_, refl, ap, sym, subst, _∙_}
-use mathlib.Core.List.{List, [], _∷_, _++_}
+use mathlib.Core.List.{List}
 use Prim.Native.Nat.{ℕ, _≤_, _<_}
 use native.Mathlib.Omega.{arith}
 use lib.Dec.{ltb}
@@ -17,11 +17,6 @@ use Rattle.lasso_text.specs.declared.Lengths.{Lengths}
 use Rattle.lasso_text.specs.declared.Lengths.the-variants.{Filled, Refused}
 use Rattle.lasso_text.specs.Reading.{Words, wordsIn, roomFault, readFault, Sizes, sizesOf, lengthsSay, LassoRead}
 use Rattle.lasso_text.specs.Steps.{measured, WordsRead}
-
--- an empty part comes back
-pub back : (ys old : List ℕ) → length ys ≡ 0 → ys ++ old ≡ old
-back [] old e = refl
-back (y ∷ ys) old e = absurd (omega arith)
 
 pub unmeasured : (x : Result Words) {r : Refusal} → measured x ≡ refused r → x ≡ refused r
 unmeasured (given w) e = absurd (never-given (sym e))

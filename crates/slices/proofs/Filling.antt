@@ -198,6 +198,11 @@ fill-given new {old} e l d = record {
   cells = d ∙ ap (λ (x : Fault). filled x new old) (sym e);
 }
 
+-- an empty part comes back
+pub none-back : (ys old : List ℕ) → length ys ≡ 0 → ys ++ old ≡ old
+none-back [] old e = refl
+none-back (y ∷ ys) old e = absurd (omega arith)
+
 -- what was filled is the front of the slice
 pub filled-front : (u old : List ℕ) {f : Fault} {out : List ℕ} {k : ℕ} → f ≡ sound → k ≡ length u → out ≡ filled f u old → (k ≤ length out) × (take k out ≡ u)
 unfolding written

@@ -1,6 +1,6 @@
 -- `notation::write` meets its contract. Assumes nothing.
-use mathlib.Core.Path.{_≡_, refl, ap, sym, _∙_}
-use mathlib.Core.List.{List, [], _∷_, _++_}
+use mathlib.Core.Path.{_≡_, ap, sym, _∙_}
+use mathlib.Core.List.{List, _++_}
 use Prim.Native.Nat.{ℕ, _≤_, _<_}
 use native.Mathlib.Omega.{arith}
 use denote.Ref.{now}
@@ -10,7 +10,7 @@ use borrow.Author.Tests.{lt-ltb, le-ltb}
 use Rattle.slices.specs.declared.Part.the-variants.{First, Out}
 use Rattle.slices.specs.Refusals.{Fault, sound, fault, when, refused}
 use Rattle.slices.specs.Filling.{written, filled}
-use Rattle.slices.proofs.Filling.{fill-refused, fill-given}
+use Rattle.slices.proofs.Filling.{none-back, fill-refused, fill-given}
 use Rattle.slices.proofs.Refusals.{when-fails, when-passes, passed, failed, refuses, was-given, was-refused}
 use Rattle.packed.specs.declared.Sizes.{Sizes}
 use Rattle.packed.specs.Layout.{Valid, letterCount, stateCount, decode}
@@ -40,11 +40,6 @@ module _ (b old : List ℕ) (need : ℕ) (e : length (textOf b) ≡ need) (ok : 
   enough h =
       passed _ ok ∙ ((λ i. when (ltb (length old) (e i)) 21 Out (e i)) ∙ when-passes 21 Out need (le-ltb (length old) need h))
 
--- the empty part comes back
-back : (ys old : List ℕ) → length ys ≡ 0 → ys ++ old ≡ old
-back [] old e = refl
-back (y ∷ ys) old e = absurd (omega arith)
-
 -- the sheet is good, and its sizes are known
 abbrev start : tie.After-validity2 → tie.Start
 start c = c .before .before .before .before .before
@@ -73,7 +68,7 @@ measured : (c : tie.After-put-sheet) → length (textOf (sheet (told c))) ≡ c 
 measured c = omega (arith, c .put-sheet .ensures .next, ap length (text-is (sheet (told c)) (ready (told c) .0)))
 
 unchanged : (c : tie.After-put-sheet) → c .put-sheet .last .1 .1 .1 .0 ++ out c ≡ out c
-unchanged c = back (c .put-sheet .last .1 .1 .1 .0) (out c) (stored-length (c .put-sheet .ensures))
+unchanged c = none-back (c .put-sheet .last .1 .1 .1 .0) (out c) (stored-length (c .put-sheet .ensures))
 
 check-requires : tie.Need-check-requires
 check-requires c κs = search needs

@@ -5,9 +5,10 @@ use Prim.Native.Nat.{_≤_, _<_}
 use native.Mathlib.Omega.{arith}
 use denote.Ref.{now}
 use lib.ListN.{length}
+use Rattle.slices.proofs.Filling.{none-back}
 use Rattle.slices.specs.Refusals.{Result, fault, given}
 use Rattle.lasso_text.specs.Reading.{Words, wordsOf, lengthsSay}
-use Rattle.lasso_text.proofs.Rooms.{back, unmeasured, was-measured, text-refused, short-opening, short-period, enough, lasso-refused, lasso-filled}
+use Rattle.lasso_text.proofs.Rooms.{unmeasured, was-measured, text-refused, short-opening, short-period, enough, lasso-refused, lasso-filled}
 use borrow.Author.Needs.{needs}
 use Rattle.lasso_text.proofs.reading.read.Statement.{statement}
 use Rattle.lasso_text.proofs.reading.read.Tie as tie
@@ -20,10 +21,10 @@ words c = wordsOf 32 (start c .args .part) (now (start c .args .text))
 
 -- the text was judged on empty parts, so the slices are as they were
 opening-back : (c : tie.After-read-words) → c .read-words .last .1 .0 ++ now (start c .args .opening) ≡ now (start c .args .opening)
-opening-back c = back (c .read-words .last .1 .0) (now (start c .args .opening)) (c .read-words .ensures .same-opening)
+opening-back c = none-back (c .read-words .last .1 .0) (now (start c .args .opening)) (c .read-words .ensures .same-opening)
 
 period-back : (c : tie.After-read-words) → c .read-words .last .1 .1 .0 ++ now (start c .args .period) ≡ now (start c .args .period)
-period-back c = back (c .read-words .last .1 .1 .0) (now (start c .args .period)) (c .read-words .ensures .same-period)
+period-back c = none-back (c .read-words .last .1 .1 .0) (now (start c .args .period)) (c .read-words .ensures .same-period)
 
 -- what it was found to say
 abbrev judged : tie.After-judged2 → tie.After-read-words
