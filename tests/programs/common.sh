@@ -2,7 +2,7 @@
 cd "$(dirname "$0")" || exit 2
 root=$(cd ../.. && pwd)
 bin=$root/target/bin
-for program in compare pack unpack verdict; do
+for program in compare import pack unpack verdict; do
     [ -x "$bin/$program" ] || { echo "not built: $program (rt check $program)"; exit 2; }
 done
 top=$(mktemp -d)

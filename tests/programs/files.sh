@@ -1,7 +1,8 @@
-# The cases that pack and unpack share, sourced by both: what becomes of SOURCE and TARGET. The caller sets
+# The cases that import, pack and unpack share, sourced by each: what becomes of SOURCE and TARGET. The caller sets
 #   $program   and in $top: good, a source that is taken; made, what it makes (more than 1,024 bytes); bad, a source that is refused
 #   $fault     number and place of that refusal
 #   $nothing   number of the refusal of an empty source
+#   $padded    the refusal of the good source with zeros after it
 run() {
     "$bin/$program" "$@"
 }
@@ -19,6 +20,22 @@ takes() {
 # refuses NAME NUMBER PLACE SOURCE TARGET
 refuses() {
     expect "$1" "$(refusal "$2" first "$3")$nl" '' run "$4" "$5"
+}
+
+# faulty TEXT: each line of standard input has number and place of a refusal, what stands in the text and what takes its place; _ is a
+# space, @ a line feed, and - alone nothing.
+faulty() {
+    local number place old new
+    while read -r number place old new; do
+        old=${old//_/ } new=${new//_/ }
+        [ "$new" = - ] && new=''
+        old=${old//@/$nl} new=${new//@/$nl}
+        printf '%s' "${1/"$old"/"$new"}" > text
+        judge "'$old' to '$new': the text differs" test "$(cat text; echo .)" != "$1."
+        rm -f sheet
+        refuses "'$old' to '$new'" "$number" "$place" text sheet
+        judge "'$old' to '$new': no target is made" test ! -e sheet
+    done
 }
 
 fresh

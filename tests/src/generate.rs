@@ -78,7 +78,7 @@ pub fn table(random: &mut Random, shape: Shape, letters: usize, states: usize) -
 }
 
 /// Marks: at random, none, all, one alone, or all but one.
-fn marks(random: &mut Random, states: usize) -> Vec<u8> {
+pub fn marks(random: &mut Random, states: usize) -> Vec<u8> {
     let choice = random.below(8);
     let one = if random.once_in(2) { 0 } else { random.below(states) };
     let mark = |state: usize, random: &mut Random| match choice {

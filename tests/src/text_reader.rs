@@ -32,12 +32,18 @@ impl<'a> Reader<'a> {
 
     /// A number: refusal 11 for its form, else the given one, at its first byte, if it is out of range.
     pub fn number(&mut self, refusal: usize, range: RangeInclusive<usize>) -> Result<usize, Refusal> {
-        let (value, next) = number(self.text, self.place).or_else(|place| refuse(11, place))?;
-        if !range.contains(&value) {
+        Ok(self.judged(|value| (!range.contains(&value)).then_some(refusal))?.0)
+    }
+
+    /// A number and the place of its first byte: refusal 11 there for its form, else the one that its value has, if any.
+    pub fn judged(&mut self, refusal: impl Fn(usize) -> Option<usize>) -> Result<(usize, usize), Refusal> {
+        let place = self.place;
+        let (value, next) = number(self.text, place).or_else(|place| refuse(11, place))?;
+        if let Some(refusal) = refusal(value) {
             return self.refuse(refusal);
         }
         self.place = next;
-        Ok(value)
+        Ok((value, place))
     }
 
     pub fn end(&self) -> Result<(), Refusal> {
@@ -54,6 +60,6 @@ impl<'a> Reader<'a> {
 }
 
 /// A lone text is "first".
-fn refuse<T>(number: usize, place: usize) -> Result<T, Refusal> {
+pub fn refuse<T>(number: usize, place: usize) -> Result<T, Refusal> {
     Err(Refusal { number, part: Part::First, place })
 }

@@ -1,4 +1,4 @@
-// The sheet as text: number, read, write. `room` is the slice that they fill.
+// The sheet as text: number, read, write; and a drawn automaton: import. `room` is the slice that they fill.
 use forms::replies::NUMBER;
 use forms::replies::Reply;
 use forms::replies::refused;
@@ -21,4 +21,8 @@ pub fn read(text: &[u8], room: &mut [u8]) -> Reply {
 
 pub fn write(sheet: &[u8], room: &mut [u8]) -> Reply {
     written(notation::write(sheet, room))
+}
+
+pub fn import(text: &[u8], room: &mut [u8]) -> Reply {
+    written(buchi_import::import(text, room))
 }

@@ -1,4 +1,4 @@
-// A file turned from one form of a sheet into the other: what the programs `pack` and `unpack` share.
+// A file turned into a packed sheet, or a packed sheet into text: what the programs `pack`, `unpack` and `import` share.
 use console::Length;
 use slices::Part;
 use slices::Written;
@@ -8,16 +8,17 @@ ghost use lib.ListN.{length};
 ghost use Rattle.slices.specs.declared.Written.the-variants.{Filled};
 ghost use Rattle.conversion.specs.Forms.{Converts};
 
-// From text to packed sheet, or back.
+// From text to packed sheet, or back; from the text of an automaton to the packed sheet of its family.
 pub enum Way {
     Pack,
     Unpack,
+    Import,
 }
 
 // The longest text: 32 scenes, 32 places, 32 places in each loop automaton, next places of two digits. A packed sheet is shorter.
 const LONGEST: usize = 109402;
 
-// The sheet in its other form; what is filled lies within the slice.
+// What a source is turned into; what is filled lies within the slice.
 fn convert(way: Way, source: &[u8], out: &mut [u8]) -> Written
     ensures { λ r. ⌜ Converts way (now (source .entry)) (now (out .entry)) (now (out .exit)) r ⌝ }
     ensures { λ r. ⌜ ((n : ℕ) → r ≡ Filled n → n ≤ length (now (out .exit))) ⌝ }
@@ -25,6 +26,7 @@ fn convert(way: Way, source: &[u8], out: &mut [u8]) -> Written
     match way {
         Way::Pack => notation::read(source, out),
         Way::Unpack => notation::write(source, out),
+        Way::Import => buchi_import::import(source, out),
     }
 }
 

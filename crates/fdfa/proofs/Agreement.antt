@@ -1,12 +1,13 @@
--- Families that agree on their states and letters give every lasso the same verdict. Assumes nothing.
-use mathlib.Core.Path.{_≡_, refl, ap, _∙_}
-use mathlib.Core.List.{List}
+-- Families that agree on their states and letters give every lasso the same verdict, and are turn-proof together. Assumes nothing.
+use mathlib.Core.Path.{_≡_, refl, ap, sym, subst, _∙_}
+use mathlib.Core.List.{List, _++_}
 use Prim.Native.Nat.{ℕ, _<_}
 use Rattle.fdfa.specs.Words.{Over, done, below, power}
 use Rattle.fdfa.specs.Family.{Fdfa, Closed, Complete, walk, Lasso, Agrees}
 use Rattle.fdfa.specs.Normalization.{returnFrom, returning, after, preperiod, periodCount}
-use Rattle.fdfa.specs.Acceptance.{loopState, endState, accepts, verdict}
-use Rattle.fdfa.proofs.Words.{over-append, over-power, walk-closed}
+use Rattle.fdfa.specs.Acceptance.{loopState, endState, accepts, Verdict, verdict}
+use Rattle.fdfa.specs.Invariance.{TurnProof}
+use Rattle.fdfa.proofs.Words.{over-append, over-power, lasso-power, walk-closed}
 use Rattle.fdfa.proofs.Normal.{inside}
 
 pub walk-same : {s n : ℕ} {f g : ℕ → ℕ → ℕ} → Closed s n f → ((q a : ℕ) → q < n → a < s → f q a ≡ g q a) → (q : ℕ) → q < n → {w : List ℕ} → Over s w → walk f q w ≡ walk g q w
@@ -46,3 +47,14 @@ module _ (F G : Fdfa) (complete : Complete F) (same : Agrees F G) (u v : List �
 
   pub verdict-same : verdict F u v ≡ verdict G u v
   verdict-same = λ i. record { accepted = accepts-same i; i = preperiod-same i; j = period-same i; state = loop-same i; end = end-same i }
+
+-- where the one is turn-proof, so is the other
+pub turn-proof-same : (F G : Fdfa) → Complete F → Agrees F G → TurnProof F → TurnProof G
+turn-proof-same F G complete same h u v l a b p =
+    sym (verdicts (u ++ power v a) (power v b) (lasso-power m a b p)) ∙ (h u v m a b p ∙ verdicts u v m)
+  where
+    m : Lasso (F .letters) u v
+    m = subst (λ (s : ℕ). Lasso s u v) (sym (same .letters)) l
+
+    verdicts : (x y : List ℕ) → Lasso (F .letters) x y → accepts F x y ≡ accepts G x y
+    verdicts x y k = ap (λ (z : Verdict). z .accepted) (verdict-same F G complete same x y k)

@@ -14,3 +14,5 @@ pub mod Inclusion
 pub mod Standing
 pub mod Reach
 pub mod OmegaWord
+pub mod BuchiPairs
+pub mod Buchi

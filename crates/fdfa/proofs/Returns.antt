@@ -23,7 +23,7 @@ smallest-unique g {i} {j} {i′} {j′} p q = (
 
 module _ (n : ℕ) (g : ℕ → ℕ) (follows : Follows g) (inside : (t : ℕ) → g t < n) where
   -- whole rounds of a return
-  rounds : (i j : ℕ) → g i ≡ g (i + j) → (m : ℕ) → g i ≡ g (i + m * j)
+  pub rounds : (i j : ℕ) → g i ≡ g (i + j) → (m : ℕ) → g i ≡ g (i + m * j)
   rounds i j e zero = ap g (omega (arith, zero-mul j))
   rounds i j e (suc m) =
       let here : i + j + m * j ≡ i + suc m * j = omega (arith, suc-mul m j) in

@@ -7,3 +7,4 @@ pub mod Enumeration
 pub mod Inclusion
 pub mod Invariance
 pub mod OmegaWord
+pub mod Buchi

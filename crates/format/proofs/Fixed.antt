@@ -1,11 +1,11 @@
 -- Formats without numbers: a fixed text, alone and before other formats. Assumes nothing.
 use mathlib.Core.Path.{_≡_, refl, ap, sym, subst, _∙_}
 use mathlib.Core.List.{List, [], _∷_, _++_}
-use Prim.Native.Nat.{ℕ, zero, suc, _<_}
+use Prim.Native.Nat.{ℕ, _<_}
 use native.Mathlib.Omega.{arith}
 use lib.ListN.{length, getD}
 use Rattle.slices.specs.Tables.{rows}
-use Rattle.slices.proofs.Tables.{tab-getD}
+use Rattle.slices.proofs.Tables.{tab-getD, rows-until}
 use Rattle.format.specs.Format.{Format, done, byte, printed, Fits, seq, literal}
 use Rattle.format.proofs.Sequences.{fits-seq, printed-seq, split, fits-each, printed-each}
 use Rattle.format.proofs.Rows.{rows-singles, rows-was}
@@ -18,8 +18,7 @@ pub record Fixed (f : Format) (x : List ℕ) : Type 0 where
 
 rows-empty : (m : ℕ) (g : ℕ → List ℕ) → ((i : ℕ) → i < m → g i ≡ []) → rows m g ≡ []
 unfolding rows
-rows-empty zero g e = refl
-rows-empty (suc m) g e = λ i. rows-empty m g (λ j l. e j (omega arith)) i ++ e m (omega arith) i
+rows-empty m g e = rows-until 0 m g (omega arith) (λ i h l. e i l)
 
 module _ (x : List ℕ) where
   step : ℕ → Format

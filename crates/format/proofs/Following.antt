@@ -1,6 +1,6 @@
 -- One format after another, as the code reads them: after a fixed text, and after numbers that are at the start of a slice. Assumes nothing.
 use mathlib.Core.Path.{_≡_, refl, ap, sym, subst, _∙_}
-use mathlib.Core.List.{List, [], _++_}
+use mathlib.Core.List.{List, [], _∷_, _++_}
 use Prim.Native.Nat.{ℕ, _-_, _≤_, _<_}
 use native.Mathlib.Omega.{arith}
 use lib.ListN.{length, getD, take, drop, length-append}
@@ -14,8 +14,10 @@ use Rattle.slices.proofs.Tables.{getD-first}
 use Rattle.slices.proofs.Filling.{Begun, begun-more, written-front}
 use Rattle.format.specs.declared.Step.{Step}
 use Rattle.format.specs.declared.Step.the-variants.{Next, Refused}
+use Rattle.format.specs.declared.Cell.{Cell}
+use Rattle.format.specs.declared.Cell.the-variants as cell
 use Rattle.format.specs.Format.{Format, Found, after, reading, Fits, seq}
-use Rattle.format.specs.Steps.{placed, stepSays, Reads}
+use Rattle.format.specs.Steps.{placed, stepSays, cellSays, Reads}
 use Rattle.format.proofs.Results.{chain, after-none, after-was}
 use Rattle.format.proofs.Sequences.{onward, reading-seq}
 use Rattle.format.proofs.Inverse.{reading-was}
@@ -59,13 +61,26 @@ module _ (part : Part) (t : List ℕ) {x : List ℕ} {f : Format} (a : Fixed f x
     pub step-within : e ≤ length t
     step-within = subst (λ (m : ℕ). m ≤ length t) (found .2) (read-within part t f at h (found .1))
 
+    none : found .0 .values ≡ []
+    none = a .none (found .0 .values) (reading-was part t f at (found .0) h (found .1) .fits)
+
+    pub step-read : reading part t f at ≡ given (record { values = []; next = e })
+    step-read = found .1 ∙ (λ i. given (record { values = none i; next = found .2 i }))
+
     pub step-given : reading part t (seq f g) at ≡ reading part t (g []) e
-    step-given =
-        seq-is part t f at g (found .1)
-        ∙ (ap (λ (l : List ℕ). after l (reading part t (g l) (found .0 .next))) none ∙ (sym (after-none (reading part t (g []) (found .0 .next))) ∙ ap (reading part t (g [])) (found .2)))
-      where
-        none : found .0 .values ≡ []
-        none = a .none (found .0 .values) (reading-was part t f at (found .0) h (found .1) .fits)
+    step-given = seq-is part t f at g step-read ∙ sym (after-none (reading part t (g []) e))
+
+-- A cell that was read, and what follows it.
+module _ (part : Part) (t : List ℕ) (f : Format) (at : ℕ) {x : Cell} (d : cellSays x ≡ reading part t f at) where
+  pub cell-within : {v e : ℕ} → at ≤ length t → x ≡ cell.Read v e → e ≤ length t
+  cell-within h k = read-within part t f at h (sym d ∙ ap cellSays k)
+
+  module _ (g : List ℕ → Format) where
+    pub cell-lost : {r : Refusal} → x ≡ cell.Refused r → reading part t (seq f g) at ≡ refused r
+    cell-lost k = seq-refused part t f at g (sym d ∙ ap cellSays k)
+
+    pub cell-got : {v e : ℕ} → x ≡ cell.Read v e → reading part t (seq f g) at ≡ after (v ∷ []) (reading part t (g (v ∷ [])) e)
+    cell-got k = seq-is part t f at g (sym d ∙ ap cellSays k)
 
 -- Numbers that were read to the start of a slice, up to the place e.
 pub record Got (part : Part) (t : List ℕ) (f : Format) (at : ℕ) (old new : List ℕ) (e : ℕ) : Type 0 where

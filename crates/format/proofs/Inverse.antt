@@ -1,13 +1,13 @@
 -- A format's reader and printer are inverse: what is read is the text of the numbers found, and the text of numbers that fit is
 -- read. Assumes nothing.
 use mathlib.Core.Path.{_≡_, refl, ap, ap₂, sym, subst, _∙_}
-use mathlib.Core.Bool.{Bool, true, false, cond}
+use mathlib.Core.Bool.{Bool, true, false, cond, _&&_}
 use mathlib.Core.List.{List, [], _∷_, _++_}
 use Prim.Native.Nat.{ℕ, suc, _+_, _≤_}
 use native.Mathlib.Omega.{arith}
 use lib.Dec.{eqb, ltb}
 use lib.ListN.{length, getD, length-append}
-use borrow.Author.Tests.{ltb-true, lt-ltb, eqb-true, eq-eqb}
+use borrow.Author.Tests.{ltb-true, lt-ltb, le-ltb, eqb-true, eq-eqb, ne-eqb}
 use Rattle.slices.specs.declared.Part.{Part}
 use Rattle.slices.specs.Refusals.{Result, given}
 use Rattle.slices.proofs.Refusals.{never-given, given-was}
@@ -35,6 +35,20 @@ stands-there t x c at a =
     let z : at ≡ at + 0 = omega arith in
     both (ltb at (length t)) (eqb (getD t at 0) c) (lt-ltb at (length t) (omega (arith, a .within)))
     (eq-eqb (getD t at 0) c (ap (λ (k : ℕ). getD t k 0) z ∙ a .same 0 (omega arith)))
+
+-- a byte does not stand where another does, nor at the end
+pub stands-other : (t x : List ℕ) (c d at : ℕ) → At t at (d ∷ x) → (d ≡ c → ⊥) → stands t c at ≡ false
+stands-other t x c d at a h =
+    let z : at ≡ at + 0 = omega arith in
+    let e : getD t at 0 ≡ d = ap (λ (k : ℕ). getD t k 0) z ∙ a .same 0 (omega arith) in
+    ap (λ (b : Bool). ltb at (length t) && b) (ne-eqb (getD t at 0) c (λ q. h (sym e ∙ q))) ∙ never (ltb at (length t))
+  where
+    never : (b : Bool) → b && false ≡ false
+    never true = refl
+    never false = refl
+
+pub stands-past : (t : List ℕ) (c at : ℕ) → length t ≤ at → stands t c at ≡ false
+stands-past t c at h = ap (λ (b : Bool). b && eqb (getD t at 0) c) (le-ltb at (length t) h)
 
 -- What was read: numbers that fit, and their text stands there.
 pub record Read (t : List ℕ) (f : Format) (at : ℕ) (w : Found) : Type 0 where
@@ -64,31 +78,31 @@ module _ (part : Part) (t : List ℕ) where
       go : ℕ → ℕ → Result Found
       go v n = after (v ∷ []) (reading part t (f v) n)
 
-      good : (v n : ℕ) → NumberRead t at v n → outside (c .low) (c .limit) v ≡ false → stands t end n ≡ true → ((g : Found) → n + 1 ≤ length t → reading part t (f v) (n + 1) ≡ given g → Read t (f v) (n + 1) g)
+      good : (v n : ℕ) → NumberRead t at v n → outside (c v .low) (c v .limit) v ≡ false → stands t end n ≡ true → ((g : Found) → n + 1 ≤ length t → reading part t (f v) (n + 1) ≡ given g → Read t (f v) (n + 1) g)
           → go v (n + 1) ≡ given w → Read t (num c end f) at w
       good v n x o s ih k =
           let one = standing t end n s in
           let a = after-was (v ∷ []) (reading part t (f v) (n + 1)) k in
           let r = ih (a .0) (one .within) (a .1) in
-          let i = inside (c .low) (c .limit) v o in
+          let i = inside (c v .low) (c v .limit) v o in
           let z : n ≡ n + 0 = omega arith in
           let e : getD t n 0 ≡ end = ap (λ (m : ℕ). getD t m 0) z ∙ one .same 0 (omega arith) in
-          let takes : Takes c end v = record { low = i .0; high = i .1; small = x .small; ends = ap (outside 48 58) (sym e) ∙ x .ends (omega (arith, one .within)) } in
+          let takes : Takes (c v) end v = record { low = i .0; high = i .1; small = x .small; ends = ap (outside 48 58) (sym e) ∙ x .ends (omega (arith, one .within)) } in
           let rest = at-append t n (end ∷ []) (printed (f v) (a .0 .values)) one (r .here) in
           let both = at-append t at (digitsOf v) (end ∷ printed (f v) (a .0 .values)) (x .here) (subst (λ (p : ℕ). At t p (end ∷ printed (f v) (a .0 .values))) (x .next) rest) in
           let long : w .next ≡ at + length (digitsOf v ++ (end ∷ printed (f v) (a .0 .values))) = omega (arith, a .3, r .next, x .next, length-append (digitsOf v) (end ∷ printed (f v) (a .0 .values))) in
           subst (λ (l : List ℕ). Read t (num c end f) at (record { values = l; next = w .next })) (sym (a .2)) (record { fits = (takes, r .fits); here = both; next = long })
 
-      ranged : (v n : ℕ) → NumberRead t at v n → (o : Bool) → outside (c .low) (c .limit) v ≡ o → (b : Bool) → stands t end n ≡ b
+      ranged : (v n : ℕ) → NumberRead t at v n → (o : Bool) → outside (c v .low) (c v .limit) v ≡ o → (b : Bool) → stands t end n ≡ b
           → ((g : Found) → n + 1 ≤ length t → reading part t (f v) (n + 1) ≡ given g → Read t (f v) (n + 1) g)
-          → cond o (refusedAt (c .number) part at) (cond b (go v (n + 1)) (refusedAt 11 part n)) ≡ given w → Read t (num c end f) at w
+          → cond o (refusedAt (c v .number) part at) (cond b (go v (n + 1)) (refusedAt 11 part n)) ≡ given w → Read t (num c end f) at w
       ranged v n x true o b e ih k = absurd (never-given k)
       ranged v n x false o false e ih k = absurd (never-given k)
       ranged v n x false o true e ih k = good v n x o e ih k
 
       by : (x : Number) → numberAt part t at ≡ x → judged part t c end at x go ≡ given w → ((v n : ℕ) (g : Found) → n ≤ length t → reading part t (f v) n ≡ given g → Read t (f v) n g) → Read t (num c end f) at w
       by (Refused r) e k ih = absurd (never-given k)
-      by (Good v n) e k ih = ranged v n (number-was part t at v n e) (outside (c .low) (c .limit) v) refl (stands t end n) refl (λ g. ih v (n + 1) g) k
+      by (Good v n) e k ih = ranged v n (number-was part t at v n e) (outside (c v .low) (c v .limit) v) refl (stands t end n) refl (λ g. ih v (n + 1) g) k
 
   pub reading-is : (f : Format) (at : ℕ) (vs : List ℕ) → Fits f vs → At t at (printed f vs) → reading part t f at ≡ given (record { values = vs; next = at + length (printed f vs) })
   unfolding reading printed Fits
@@ -101,7 +115,7 @@ module _ (part : Part) (t : List ℕ) where
   reading-is (num c end f) at [] h a = absurd h
   reading-is (num c end f) at (v ∷ vs) h a =
       ap (λ (x : Number). judged part t c end at x (λ v next. after (v ∷ []) (reading part t (f v) next))) (number-is part t at v end (h .0 .small) (h .0 .ends) number)
-      ∙ (ap₂ (λ (o b : Bool). cond o (refusedAt (c .number) part at) (cond b (after (v ∷ []) (reading part t (f v) (n + 1))) (refusedAt 11 part n))) (not-outside (c .low) (c .limit) v (h .0 .low) (h .0 .high)) (stands-there t x end n rest)
+      ∙ (ap₂ (λ (o b : Bool). cond o (refusedAt (c v .number) part at) (cond b (after (v ∷ []) (reading part t (f v) (n + 1))) (refusedAt 11 part n))) (not-outside (c v .low) (c v .limit) v (h .0 .low) (h .0 .high)) (stands-there t x end n rest)
       ∙ (ap (after (v ∷ [])) (reading-is (f v) (n + 1) vs (h .1) (at-right t n (end ∷ []) x rest)) ∙ ap (λ (k : ℕ). given (record { values = v ∷ vs; next = k })) long))
     where
       x : List ℕ

@@ -7,5 +7,9 @@ pub mod Rows
 pub mod Fixed
 pub mod Following
 pub mod Places
+pub mod Going
+pub mod Chained
 pub mod Lined
 pub mod LinesInverse
+pub mod Led
+pub mod Narrower

@@ -25,7 +25,7 @@ abbrev pub From : List ℕ → ℕ → Refusal → Type 0
 From t at r = (at ≤ r .place) × (r .place ≤ length t)
 
 module _ (part : Part) (t : List ℕ) where
-  here : (k at : ℕ) {r : Refusal} → at ≤ length t → refusedAt k part at ≡ refused r → From t at r
+  here : (k at : ℕ) {r : Refusal} → at ≤ length t → refusedAt {A = Found} k part at ≡ refused r → From t at r
   here k at h e = subst (From t at) (refused-was e) (omega arith, h)
 
   after-refused : (d : List ℕ) (x : Result Found) {r : Refusal} → after d x ≡ refused r → x ≡ refused r
@@ -46,8 +46,8 @@ module _ (part : Part) (t : List ℕ) where
       go v n = after (v ∷ []) (reading part t (f v) n)
 
       ranged : (v n : ℕ) → NumberRead t at v n → (o : Bool) → (b : Bool) → stands t end n ≡ b → (n + 1 ≤ length t → reading part t (f v) (n + 1) ≡ refused r → From t (n + 1) r)
-          → cond o (refusedAt (c .number) part at) (cond b (go v (n + 1)) (refusedAt 11 part n)) ≡ refused r → From t at r
-      ranged v n x true b e ih k = here (c .number) at h k
+          → cond o (refusedAt (c v .number) part at) (cond b (go v (n + 1)) (refusedAt 11 part n)) ≡ refused r → From t at r
+      ranged v n x true b e ih k = here (c v .number) at h k
       ranged v n x false false e ih k =
           let p = here 11 n (omega (arith, x .next, x .here .within)) k in (omega (arith, p .0, x .next), p .1)
       ranged v n x false true e ih k =
@@ -55,7 +55,7 @@ module _ (part : Part) (t : List ℕ) where
 
       by : (x : Number) → numberAt part t at ≡ x → judged part t c end at x go ≡ refused r → ((v n : ℕ) → n ≤ length t → reading part t (f v) n ≡ refused r → From t n r) → From t at r
       by (Refused s) e k ih = subst (From t at) (refused-was k) (refused-within part t at s e h)
-      by (Good v n) e k ih = ranged v n (number-was part t at v n e) (outside (c .low) (c .limit) v) (stands t end n) refl (ih v (n + 1)) k
+      by (Good v n) e k ih = ranged v n (number-was part t at v n e) (outside (c v .low) (c v .limit) v) (stands t end n) refl (ih v (n + 1)) k
 
   -- of two formats in a row, the second is refused no earlier than where the first ended
   pub second-refused : (f : Format) (g : List ℕ → Format) (at : ℕ) (w : Found) (r : Refusal) → at ≤ length t → reading part t f at ≡ given w → reading part t (seq f g) at ≡ refused r → From t (w .next) r

@@ -42,7 +42,7 @@ module _ (part : Part) (t : List ℕ) where
       inner v (refused r) = refl
 
       last : (a b : Bool) (v n : ℕ) → whole v (n + 1) ≡ chain (half v (n + 1)) (onward g)
-          → cond a (refusedAt (c .number) part at) (cond b (whole v (n + 1)) (refusedAt 11 part n)) ≡ chain (cond a (refusedAt (c .number) part at) (cond b (half v (n + 1)) (refusedAt 11 part n))) (onward g)
+          → cond a (refusedAt (c v .number) part at) (cond b (whole v (n + 1)) (refusedAt 11 part n)) ≡ chain (cond a (refusedAt (c v .number) part at) (cond b (half v (n + 1)) (refusedAt 11 part n))) (onward g)
       last true b v n h = refl
       last false true v n h = h
       last false false v n h = refl
@@ -50,7 +50,7 @@ module _ (part : Part) (t : List ℕ) where
       by : (x : Number) → ((v n : ℕ) → reading part t (seq (f v) (λ vs. g (v ∷ vs))) n ≡ chain (reading part t (f v) n) (onward (λ vs. g (v ∷ vs))))
           → judged part t c end at x whole ≡ chain (judged part t c end at x half) (onward g)
       by (Refused r) ih = refl
-      by (Good v n) ih = last (outside (c .low) (c .limit) v) (stands t end n) v n (ap (after (v ∷ [])) (ih v (n + 1)) ∙ inner v (reading part t (f v) (n + 1)))
+      by (Good v n) ih = last (outside (c v .low) (c v .limit) v) (stands t end n) v n (ap (after (v ∷ [])) (ih v (n + 1)) ∙ inner v (reading part t (f v) (n + 1)))
 
 -- the numbers of both fit
 pub fits-seq : (f : Format) (g : List ℕ → Format) (vs ws : List ℕ) → Fits f vs → Fits (g vs) ws → Fits (seq f g) (vs ++ ws)

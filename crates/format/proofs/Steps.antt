@@ -15,8 +15,8 @@ use Rattle.numbers.specs.declared.Number.the-variants.{Good, Refused}
 use Rattle.numbers.specs.Numerals.{numberAt}
 use Rattle.format.specs.declared.Column.{Column}
 use Rattle.format.specs.Format.{Found, done, byte, after, refusedAt, stands, judged, reading}
-use Rattle.format.specs.Rows.{cell}
-use Rattle.format.specs.Steps.{placed}
+use Rattle.format.specs.Rows.{choice, cell}
+use Rattle.format.specs.Steps.{placed, peeked}
 
 pub placed-refused : (x : Result Found) {r : Refusal} → placed x ≡ refused r → x ≡ refused r
 placed-refused (given w) e = absurd (never-given (sym e))
@@ -45,20 +45,20 @@ module _ (part : Part) (t : List ℕ) (c at : ℕ) where
   unfolding reading
   byte-placed {e} d = by (stands t c at) d
     where
-      by : (b : Bool) → placed (cond b (given (record { values = []; next = at + 1 })) (refusedAt 11 part at)) ≡ given e
-          → cond b (given (record { values = []; next = at + 1 })) (refusedAt 11 part at) ≡ given (record { values = []; next = e })
+      by : (b : Bool) → placed (cond {A = Result Found} b (given (record { values = []; next = at + 1 })) (refusedAt 11 part at)) ≡ given e
+          → cond {A = Result Found} b (given (record { values = []; next = at + 1 })) (refusedAt 11 part at) ≡ given (record { values = []; next = e })
       by true k = ap (λ (n : ℕ). given (record { values = []; next = n })) (given-was k)
       by false k = absurd (never-given k)
 
 module _ (part : Part) (t : List ℕ) (c : Column) (end at : ℕ) where
   pub cell-refused : {r : Refusal} → numberAt part t at ≡ Refused r → reading part t (cell c end) at ≡ refused r
   unfolding reading
-  cell-refused e = ap (λ (x : Number). judged part t c end at x (λ v next. after (v ∷ []) (given (record { values = []; next = next })))) e
+  cell-refused e = ap (λ (x : Number). judged part t (λ n. c) end at x (λ v next. after (v ∷ []) (given (record { values = []; next = next })))) e
 
   cell-good : {v n : ℕ} → numberAt part t at ≡ Good v n
       → reading part t (cell c end) at ≡ cond (outside (c .low) (c .limit) v) (refusedAt (c .number) part at) (cond (stands t end n) (given (record { values = v ∷ []; next = n + 1 })) (refusedAt 11 part n))
   unfolding reading
-  cell-good e = ap (λ (x : Number). judged part t c end at x (λ v next. after (v ∷ []) (given (record { values = []; next = next })))) e
+  cell-good e = ap (λ (x : Number). judged part t (λ n. c) end at x (λ v next. after (v ∷ []) (given (record { values = []; next = next })))) e
 
   pub cell-outside : {v n : ℕ} → numberAt part t at ≡ Good v n → outside (c .low) (c .limit) v ≡ true → reading part t (cell c end) at ≡ refusedAt (c .number) part at
   cell-outside {v} {n} e o = cell-good e ∙ ap (λ (b : Bool). cond b (refusedAt (c .number) part at) (cond (stands t end n) (given (record { values = v ∷ []; next = n + 1 })) (refusedAt 11 part n))) o
@@ -72,3 +72,15 @@ module _ (part : Part) (t : List ℕ) (c : Column) (end at : ℕ) where
       by : (b : Bool) → cond b (given (record { values = v ∷ []; next = n + 1 })) (refusedAt 11 part n) ≡ after (v ∷ []) (cond b (given (record { values = []; next = n + 1 })) (refusedAt 11 part n))
       by true = refl
       by false = refl
+
+-- the column that a number chooses is the one chosen by peeking at it
+pub choice-peeked : (part : Part) (t : List ℕ) (c : ℕ → Column) (end at : ℕ) → reading part t (choice c end) at ≡ reading part t (cell (c (peeked (numberAt part t at))) end) at
+unfolding reading
+choice-peeked part t c end at = by (numberAt part t at)
+  where
+    go : ℕ → ℕ → Result Found
+    go v next = after (v ∷ []) (given (record { values = []; next = next }))
+
+    by : (x : Number) → judged part t c end at x go ≡ judged part t (λ v. c (peeked x)) end at x go
+    by (Good v n) = refl
+    by (Refused r) = refl

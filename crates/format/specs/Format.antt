@@ -1,4 +1,5 @@
--- A format is data: fixed bytes, and numbers each with the byte that ends it, where what follows a number may depend on it.
+-- A format is data: fixed bytes, and numbers each with the byte that ends it, where the column that judges a number, and what
+-- follows it, may depend on it.
 -- It is read from left to right, so that what is refused first is refused at the smallest place. Assumes nothing.
 use mathlib.Core.Path.{_≡_}
 use mathlib.Core.Bool.{Bool, true, cond, _&&_}
@@ -18,7 +19,7 @@ use Rattle.format.specs.declared.Column.{Column}
 pub data Format : Type 0 where
   done : Format
   byte : ℕ → Format → Format
-  num : Column → ℕ → (ℕ → Format) → Format
+  num : (ℕ → Column) → ℕ → (ℕ → Format) → Format
 
 -- What reading finds: the numbers, in their order, and the place after the text of the format.
 pub record Found : Type 0 where
@@ -30,7 +31,7 @@ abbrev pub after : List ℕ → Result Found → Result Found
 after d (given f) = given (record { values = d ++ f .values; next = f .next })
 after d (refused r) = refused r
 
-abbrev pub refusedAt : ℕ → Part → ℕ → Result Found
+abbrev pub refusedAt : {A : Type 0} → ℕ → Part → ℕ → Result A
 refusedAt number part place = refused (record { number = number; part = part; place = place })
 
 -- The byte that is due stands at a place.
@@ -38,10 +39,10 @@ abbrev pub stands : List ℕ → ℕ → ℕ → Bool
 stands t c at = ltb at (length t) && eqb (getD t at 0) c
 
 -- A number of good form is judged at its first byte, before the byte after it.
-abbrev pub judged : Part → List ℕ → Column → ℕ → ℕ → Number → (ℕ → ℕ → Result Found) → Result Found
+abbrev pub judged : Part → List ℕ → (ℕ → Column) → ℕ → ℕ → Number → (ℕ → ℕ → Result Found) → Result Found
 judged part t c end at (Refused r) go = refused r
 judged part t c end at (Good v next) go =
-    cond (outside (c .low) (c .limit) v) (refusedAt (c .number) part at) (cond (stands t end next) (go v (next + 1)) (refusedAt 11 part next))
+    cond (outside (c v .low) (c v .limit) v) (refusedAt (c v .number) part at) (cond (stands t end next) (go v (next + 1)) (refusedAt 11 part next))
 
 -- Reading a text from a place on; what is no text of the format is 11, at the byte that departs from it.
 unfoldable pub reading : Part → List ℕ → Format → ℕ → Result Found
@@ -69,7 +70,7 @@ Fits done [] = Unit {0}
 Fits done (v ∷ vs) = ⊥
 Fits (byte c f) vs = Fits f vs
 Fits (num c end f) [] = ⊥
-Fits (num c end f) (v ∷ vs) = Takes c end v × Fits (f v) vs
+Fits (num c end f) (v ∷ vs) = Takes (c v) end v × Fits (f v) vs
 
 -- One format after another, which may depend on the numbers of the first.
 unfoldable pub seq : Format → (List ℕ → Format) → Format
@@ -81,6 +82,11 @@ seq (num c end f) g = num c end (λ v. seq (f v) (λ vs. g (v ∷ vs)))
 unfoldable pub each : ℕ → (ℕ → Format) → Format
 each zero f = done
 each (suc m) f = seq (each m f) (λ vs. f m)
+
+-- The same where each step may depend on the numbers of those before it.
+unfoldable pub chained : ℕ → (ℕ → List ℕ → Format) → Format
+chained zero f = done
+chained (suc m) f = seq (chained m f) (f m)
 
 -- A fixed text.
 abbrev pub literal : List ℕ → Format

@@ -17,9 +17,12 @@ separator m i = cond (eqb (i + 1) m) 10 32
 abbrev pub columnOf : Row → ℕ → Column
 columnOf r i = cond (eqb i 0) (r .first) (cond (eqb i 1) (r .second) (cond (eqb i 2) (r .third) (r .rest)))
 
--- A number within a column, and the byte that ends it.
+-- A number and the byte that ends it, within the column that the number chooses; within one column.
+abbrev pub choice : (ℕ → Column) → ℕ → Format
+choice c end = num c end (λ v. done)
+
 abbrev pub cell : Column → ℕ → Format
-cell c end = num c end (λ v. done)
+cell c end = choice (λ v. c) end
 
 unfoldable pub row : Row → Format
 row r = each (r .count) (λ i. cell (columnOf r i) (separator (r .count) i))

@@ -5,6 +5,8 @@ use Prim.Native.Nat.{ℕ}
 use lib.ListN.{length}
 use Rattle.slices.specs.Refusals.{Result, given, refused}
 use Rattle.slices.specs.Filling.{written}
+use Rattle.numbers.specs.declared.Number.{Number}
+use Rattle.numbers.specs.declared.Number.the-variants as number
 use Rattle.format.specs.declared.Step.{Step}
 use Rattle.format.specs.declared.Step.the-variants.{Next, Refused}
 use Rattle.format.specs.declared.Cell.{Cell}
@@ -24,6 +26,11 @@ stepSays (Refused r) = refused r
 abbrev pub cellSays : Cell → Result Found
 cellSays (cell.Read v next) = given (record { values = v ∷ []; next = next })
 cellSays (cell.Refused r) = refused r
+
+-- The number at a place, 0 where there is none.
+abbrev pub peeked : Number → ℕ
+peeked (number.Good v next) = v
+peeked (number.Refused r) = 0
 
 -- A format was read to the start of a lent slice; a refusal leaves its cells open.
 pub record Reads (x : Result Found) (old new : List ℕ) (r : Step) : Type 0 where

@@ -15,7 +15,8 @@ ghost use Rattle.format.specs.Format.{stands, reading};
 ghost use Rattle.format.specs.Lines.{labelled, linesAt, LinesRead};
 ghost use Rattle.format.specs.Steps.{cellSays};
 
-fn stands(text: &[u8], c: u8, at: usize) -> bool
+// Whether a byte stands at a place.
+pub fn stands(text: &[u8], c: u8, at: usize) -> bool
     ensures { λ r. ⌜ r ≡ stands (now (text .entry)) c at ⌝ }
 {
     if text.len() <= at {
@@ -24,15 +25,22 @@ fn stands(text: &[u8], c: u8, at: usize) -> bool
     text[at] == c
 }
 
-// A word, a number, a line feed.
-fn read_line(text: &[u8], at: usize, word: &[u8], column: Column, part: Part) -> Cell
+// A word, a number, the byte that ends it.
+pub fn read_labelled(
+    text: &[u8],
+    at: usize,
+    word: &[u8],
+    column: Column,
+    end: u8,
+    part: Part,
+) -> Cell
     requires { ⌜ at ≤ length (now text) ⌝ }
-    ensures { λ r. ⌜ cellSays r ≡ reading part (now (text .entry)) (labelled (now (word .entry)) column) at ⌝ }
+    ensures { λ r. ⌜ cellSays r ≡ reading part (now (text .entry)) (labelled (now (word .entry)) (λ v. column) end) at ⌝ }
 {
     let step = read_literal(text, at, word, part);
     match step {
         Step::Refused(r) => Cell::Refused(r),
-        Step::Next(e) => read_cell(text, e, column, 10, part),
+        Step::Next(e) => read_cell(text, e, column, end, part),
     }
 }
 
@@ -54,7 +62,7 @@ pub fn read_lines(
     let mut count = 0;
     let mut more = stands(text, first, at);
     while more {
-        let found = read_line(text, p, word, column, part);
+        let found = read_labelled(text, p, word, column, 10, part);
         match found {
             Cell::Refused(x) => {
                 return Lines::Refused(x);

@@ -3,7 +3,10 @@ mod reading; // reading.rt: literals, cells, rows
 mod labelled; // labelled.rt: lines of a word and a number, as many as there are
 mod writing; // writing.rt: literals and rows, written
 
+pub use labelled::read_labelled;
 pub use labelled::read_lines;
+pub use labelled::stands;
+pub use reading::peek;
 pub use reading::read_cell;
 pub use reading::read_literal;
 pub use reading::read_row;

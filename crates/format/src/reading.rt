@@ -16,7 +16,8 @@ ghost use Prim.Native.Nat.{_*_, _≤_, _<_};
 ghost use lib.ListN.{length};
 ghost use Rattle.format.specs.Format.{byte, done, after, reading, each, literal};
 ghost use Rattle.format.specs.Rows.{columnOf, cell, row, due, numbered};
-ghost use Rattle.format.specs.Steps.{placed, stepSays, cellSays, Reads};
+ghost use Rattle.numbers.specs.Numerals.{numberAt};
+ghost use Rattle.format.specs.Steps.{placed, stepSays, cellSays, peeked, Reads};
 
 // The byte that is due at a place.
 fn byte(text: &[u8], at: usize, c: u8, part: Part) -> Step
@@ -76,6 +77,17 @@ pub fn read_cell(text: &[u8], at: usize, column: Column, end: u8, part: Part) ->
             }
             closed(text, v, e, end, part)
         }
+    }
+}
+
+// The number at a place, 0 where there is none: by it a reader may choose the column that judges it.
+pub fn peek(text: &[u8], at: usize, part: Part) -> usize
+    ensures { λ r. ⌜ r ≡ peeked (numberAt part (now (text .entry)) at) ⌝ }
+{
+    let found = number_at(text, at, part);
+    match found {
+        Number::Refused(_) => 0,
+        Number::Good(v, _) => v,
     }
 }
 

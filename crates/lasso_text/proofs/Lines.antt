@@ -20,7 +20,7 @@ use Rattle.lasso_text.specs.Reading.{letter}
 
 module _ (name : List ℕ) (s : ℕ) where
   abbrev line : Format
-  line = labelled name (letter s)
+  line = labelled name (λ v. letter s) 10
 
   abbrev pub lines : ℕ → Format
   lines m = each m (λ i. line)

@@ -1,12 +1,10 @@
 -- Reading as the code goes: step by step, and what was read where nothing is refused. Assumes nothing.
 use mathlib.Core.Path.{_≡_, refl, ap, sym, subst, _∙_}
-use mathlib.Core.Bool.{Bool, true, false, cond}
 use mathlib.Core.List.{List}
 use Prim.Native.Nat.{ℕ, _≤_}
 use native.Mathlib.Omega.{arith}
-use lib.Dec.{eqb}
 use lib.ListN.{length}
-use borrow.Author.Tests.{eq-eqb, ne-eqb, eqb-true, eqb-false}
+use borrow.Author.Tests.{eq-eqb, ne-eqb}
 use Rattle.slices.specs.declared.Part.{Part}
 use Rattle.slices.specs.declared.Refusal.{Refusal}
 use Rattle.slices.specs.Refusals.{Result, given, refused}
@@ -17,16 +15,16 @@ use Rattle.format.specs.declared.Step.the-variants as step
 use Rattle.format.specs.declared.Lines.{Lines}
 use Rattle.format.specs.declared.Lines.the-variants as lines
 use Rattle.format.specs.Format.{Found, reading, literal}
-use Rattle.format.specs.Lines.{linesAt, linesSay, LinesRead}
+use Rattle.format.specs.Lines.{linesAt, closing, linesSay, LinesRead}
 use Rattle.format.specs.Steps.{placed, stepSays}
 use Rattle.format.proofs.Inverse.{reading-was}
 use Rattle.format.proofs.LinesInverse.{lines-was}
 use Rattle.format.proofs.Steps.{placed-refused, placed-given}
-use Rattle.format.proofs.Lined.{lines-refused, lines-counted}
+use Rattle.format.proofs.Lined.{lines-refused, lines-counted, closing-was}
 use Rattle.lasso_text.specs.declared.Lengths.{Lengths}
 use Rattle.lasso_text.specs.declared.Lengths.the-variants.{Refused}
 use Rattle.lasso_text.specs.Text.{title, prefixName}
-use Rattle.lasso_text.specs.Reading.{Words, letter, ended, opened, named, wordsOf, lengthsSay}
+use Rattle.lasso_text.specs.Reading.{Words, letter, joined, ended, opened, named, wordsOf, lengthsSay}
 use Rattle.lasso_text.specs.Steps.{measured, WordsRead, PeriodRead}
 
 -- where the text ends, and whether it has lines of the period
@@ -49,21 +47,13 @@ pub record Ended (t u : List ℕ) (x : Result Found) (w : Words) : Type 0 where
   pub some : length (found .values) ≡ 0 → ⊥
 
 pub ended-was : (part : Part) (t u : List ℕ) (x : Result Found) {w : Words} → ended part t u x ≡ given w → Ended t u x w
-ended-was part t u (refused r) e = absurd (never-given e)
-ended-was part t u (given g) {w} e = by (eqb (g .next) (length t)) refl (eqb (length (g .values)) 0) refl e
+ended-was part t u x {w} e = by (closing part t 8 x) refl e
   where
-    by : (a : Bool) → eqb (g .next) (length t) ≡ a → (b : Bool) → eqb (length (g .values)) 0 ≡ b
-        → cond {A = Result Words} a (cond b (refused (record { number = 8; part = part; place = length t })) (given (record { prefix = u; period = g .values }))) (refused (record { number = 11; part = part; place = g .next })) ≡ given w
-        → Ended t u (given g) w
-    by false p b q k = absurd (never-given k)
-    by true p true q k = absurd (never-given k)
-    by true p false q k = record {
-      found = g;
-      says = refl;
-      words = sym (given-was k);
-      end = eqb-true (g .next) (length t) p;
-      some = eqb-false (length (g .values)) 0 q;
-    }
+    by : (y : Result (List ℕ)) → closing part t 8 x ≡ y → joined u y ≡ given w → Ended t u x w
+    by (refused r) d k = absurd (never-given k)
+    by (given v) d k =
+        let c = closing-was part t 8 x d in
+        record { found = c .found; says = c .says; words = sym (given-was k) ∙ ap (λ (z : List ℕ). record { prefix = u; period = z }) (sym (c .values)); end = c .end; some = c .some }
 
 -- the line of names
 module _ (s : ℕ) (part : Part) (t : List ℕ) {x : Step} (d : stepSays x ≡ placed (reading part t (literal title) 0)) where

@@ -1,12 +1,10 @@
 -- The text of a lasso is read, to that lasso; and what is read is a lasso whose text was read. Assumes nothing.
 use mathlib.Core.Path.{_≡_, refl, ap, sym, subst, _∙_}
-use mathlib.Core.Bool.{Bool, true, false, _&&_}
-use mathlib.Core.List.{List, [], _∷_, _++_}
+use mathlib.Core.Bool.{false}
+use mathlib.Core.List.{List, [], _++_}
 use Prim.Native.Nat.{ℕ, _+_, _≤_, _<_}
 use native.Mathlib.Omega.{arith}
-use lib.Dec.{eqb, ltb}
-use lib.ListN.{length, getD, length-append}
-use borrow.Author.Tests.{le-ltb, ne-eqb}
+use lib.ListN.{length, length-append}
 use Rattle.slices.specs.declared.Part.{Part}
 use Rattle.slices.specs.Refusals.{Result, given, refused}
 use Rattle.slices.proofs.Refusals.{never-given}
@@ -15,8 +13,8 @@ use Rattle.fdfa.specs.Family.{Lasso}
 use Rattle.fdfa.proofs.Letters.{some-letters}
 use Rattle.numbers.proofs.Standing.{At, at-append, at-left, at-right, at-self, at-whole, row-at}
 use Rattle.format.specs.Format.{Found, stands, reading, printed, Fits, literal}
-use Rattle.format.specs.Lines.{linesAt, repeats, labelled}
-use Rattle.format.proofs.Inverse.{Read, reading-was, reading-is}
+use Rattle.format.specs.Lines.{linesAt, repeats}
+use Rattle.format.proofs.Inverse.{stands-other, stands-past, Read, reading-was, reading-is}
 use Rattle.format.proofs.Fixed.{fixed-literal}
 use Rattle.format.proofs.LinesInverse.{lines-was, lines-is}
 use Rattle.lasso_text.specs.Text.{title, prefixName, periodName, letterLine, letterLines, lassoText}
@@ -24,20 +22,6 @@ use Rattle.lasso_text.specs.Reading.{Words, letter, ended, opened, named
 use Rattle.lasso_text.proofs.Measures.{text-long}
 use Rattle.lasso_text.proofs.Lines.{lines, word-fits, fits-over, fits-text}
 use Rattle.lasso_text.proofs.Onward.{ended-all, ended-was}
-
--- a byte does not stand where another does, nor at the end
-stands-other : (t x : List ℕ) (c d at : ℕ) → At t at (d ∷ x) → (d ≡ c → ⊥) → stands t c at ≡ false
-stands-other t x c d at a h =
-    let z : at ≡ at + 0 = omega arith in
-    let e : getD t at 0 ≡ d = ap (λ (k : ℕ). getD t k 0) z ∙ a .same 0 (omega arith) in
-    ap (λ (b : Bool). ltb at (length t) && b) (ne-eqb (getD t at 0) c (λ q. h (sym e ∙ q))) ∙ never (ltb at (length t))
-  where
-    never : (b : Bool) → b && false ≡ false
-    never true = refl
-    never false = refl
-
-stands-past : (t : List ℕ) (c at : ℕ) → length t ≤ at → stands t c at ≡ false
-stands-past t c at h = ap (λ (b : Bool). b && eqb (getD t at 0) c) (le-ltb at (length t) h)
 
 -- the text of a lasso is read, to that lasso
 module _ (s : ℕ) (part : Part) (small : s ≤ 1000) (u v : List ℕ) (lasso : Lasso s u v) where
@@ -112,8 +96,8 @@ module _ (s : ℕ) (part : Part) (small : s ≤ 1000) (u v : List ℕ) (lasso : 
 -- what is read is a lasso, and its text is what was read
 module _ (s : ℕ) (part : Part) (t : List ℕ) (w : Words) where
   -- from the lines of each part, where they stand
-  joined : (f g h : Found) → Read t (literal title) 0 f → Read t (lines prefixName s (repeats part t 111 (labelled prefixName (letter s)) (f .next))) (f .next) g
-      → Read t (lines periodName s (repeats part t 108 (labelled periodName (letter s)) (g .next))) (g .next) h → h .next ≡ length t → (length (h .values) ≡ 0 → ⊥)
+  joined : (f g h : Found) → Read t (literal title) 0 f → Read t (lines prefixName s (repeats part t 111 (lines prefixName s) (f .next))) (f .next) g
+      → Read t (lines periodName s (repeats part t 108 (lines periodName s) (g .next))) (g .next) h → h .next ≡ length t → (length (h .values) ≡ 0 → ⊥)
       → Lasso s (g .values) (h .values) × (t ≡ lassoText (g .values) (h .values))
   unfolding lassoText
   joined f g h a b c e some = (
@@ -134,10 +118,10 @@ module _ (s : ℕ) (part : Part) (t : List ℕ) (w : Words) where
       text-title : printed (literal title) (f .values) ≡ title
       text-title = ap (printed (literal title)) (fixed-literal title .none (f .values) (a .fits)) ∙ fixed-literal title .text
 
-      text-x : printed (lines prefixName s (repeats part t 111 (labelled prefixName (letter s)) (f .next))) (g .values) ≡ x
+      text-x : printed (lines prefixName s (repeats part t 111 (lines prefixName s) (f .next))) (g .values) ≡ x
       text-x = fits-text prefixName s _ (g .values) (b .fits)
 
-      text-y : printed (lines periodName s (repeats part t 108 (labelled periodName (letter s)) (g .next))) (h .values) ≡ y
+      text-y : printed (lines periodName s (repeats part t 108 (lines periodName s) (g .next))) (h .values) ≡ y
       text-y = fits-text periodName s _ (h .values) (c .fits)
 
       at-x : f .next ≡ 11

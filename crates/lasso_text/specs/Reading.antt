@@ -1,9 +1,8 @@
 -- Reading the text of a lasso from left to right, for any bytes: what is refused first is refused at the smallest place. Assumes nothing.
 use mathlib.Core.Path.{_≡_}
-use mathlib.Core.Bool.{cond}
 use mathlib.Core.List.{List, []}
 use Prim.Native.Nat.{ℕ}
-use lib.Dec.{eqb, ltb}
+use lib.Dec.{ltb}
 use lib.ListN.{length}
 use Rattle.slices.specs.declared.Part.{Part}
 use Rattle.slices.specs.declared.Part.the-variants.{Opening, Loop}
@@ -12,7 +11,7 @@ use Rattle.slices.specs.Filling.{filled}
 use Rattle.format.specs.declared.Column.{Column}
 use Rattle.format.specs.Format.{Found, reading, literal}
 use Rattle.format.specs.Rows.{below}
-use Rattle.format.specs.Lines.{linesAt}
+use Rattle.format.specs.Lines.{linesAt, closing}
 use Rattle.lasso_text.specs.declared.Lengths.{Lengths}
 use Rattle.lasso_text.specs.declared.Lengths.the-variants.{Filled, Refused}
 use Rattle.lasso_text.specs.Text.{title, prefixName, periodName}
@@ -26,13 +25,13 @@ pub record Words : Type 0 where
 abbrev pub letter : ℕ → Column
 letter s = below s 9
 
--- After the lines of the period the text ends: a byte there is 11. A period without a line is 8, at the text's length.
+-- The lines of the period are the last; a text that has none is 8.
+abbrev pub joined : List ℕ → Result (List ℕ) → Result Words
+joined u (given v) = given (record { prefix = u; period = v })
+joined u (refused r) = refused r
+
 abbrev pub ended : Part → List ℕ → List ℕ → Result Found → Result Words
-ended part t u (refused r) = refused r
-ended part t u (given w) =
-    cond (eqb (w .next) (length t))
-    (cond (eqb (length (w .values)) 0) (refused (record { number = 8; part = part; place = length t })) (given (record { prefix = u; period = w .values })))
-    (refused (record { number = 11; part = part; place = w .next }))
+ended part t u x = joined u (closing part t 8 x)
 
 -- After the lines of the prefix, those of the period.
 abbrev pub opened : ℕ → Part → List ℕ → Result Found → Result Words

@@ -11,11 +11,11 @@ use Rattle.slices.specs.declared.Part.the-variants.{First, Out}
 use Rattle.fdfa.specs.Family.{Fdfa, Agrees}
 use Rattle.slices.specs.Refusals.{sound, when, Result, given, refused}
 use Rattle.slices.proofs.Refusals.{passed, faulty, then-left, never-given, given-was}
-use Rattle.slices.specs.Tables.{tab, rows, table}
+use Rattle.slices.specs.Tables.{tab, rows}
 use Rattle.slices.proofs.Tables.{tab-same, rows-same}
-use Rattle.packed.specs.Layout.{decode, mark, partBytes, pack, Valid, Packable}
+use Rattle.packed.specs.Layout.{decode, mark, pack, Valid, Packable}
 use Rattle.packed.proofs.Soundness.{valid-packable}
-use Rattle.packed.proofs.Packing.{pack-decode, decode-pack, pack-valid}
+use Rattle.packed.proofs.Packing.{pack-same, pack-decode, decode-pack, pack-valid}
 use Rattle.numbers.proofs.Standing.{At, at-append, at-left, at-right, at-self, at-whole}
 use Rattle.format.specs.Format.{Found, reading, printed}
 use Rattle.format.proofs.Inverse.{Read, reading-was, reading-is}
@@ -26,25 +26,8 @@ use Rattle.notation.proofs.Shapes.{whole-readable}
 use Rattle.notation.proofs.Texts.{front-fits, parts-fit}
 use Rattle.notation.proofs.Families.{family-is, front-is, parts-is}
 
--- families that agree have one packed form
+-- families that agree have one text
 module _ (F G : Fdfa) (a : Agrees F G) where
-  part-same : (q : ℕ) → q < F .states → partBytes F q ≡ partBytes G q
-  part-same q h =
-      ap₂ (λ (x y : List ℕ). x ++ y)
-      (rows-same (F .size q) (λ p. tab (F .letters) (F .progress q p)) (λ p. tab (F .letters) (G .progress q p)) (λ p k. tab-same (F .letters) (F .progress q p) (G .progress q p) (λ b l. a .progresses q p b h k l))
-      ∙ (λ i. table (a .sizes q h i) (a .letters i) (G .progress q)))
-      (tab-same (F .size q) (λ p. mark (F .accepting q p)) (λ p. mark (G .accepting q p)) (λ p k. ap mark (a .marks q p h k)) ∙ ap (λ (k : ℕ). tab k (λ p. mark (G .accepting q p))) (a .sizes q h))
-
-  pub pack-same : pack F ≡ pack G
-  pack-same =
-      ap₂ (λ (x y : List ℕ). x ++ y)
-      (ap₂ (λ (x y : List ℕ). x ++ y)
-      (ap₂ (λ (x y : List ℕ). x ++ y) (λ i. a .letters i ∷ a .states i ∷ []) (tab-same (F .states) (F .size) (G .size) (a .sizes) ∙ ap (λ (k : ℕ). tab k (G .size)) (a .states)))
-      (rows-same (F .states) (λ q. tab (F .letters) (F .step q)) (λ q. tab (F .letters) (G .step q)) (λ q h. tab-same (F .letters) (F .step q) (G .step q) (λ b l. a .steps q b h l))
-      ∙ (λ i. table (a .states i) (a .letters i) (G .step))))
-      (rows-same (F .states) (partBytes F) (partBytes G) part-same ∙ ap (λ (k : ℕ). rows k (partBytes G)) (a .states))
-
-  -- and one text
   leading-same : (q : ℕ) → q < F .states → leadingValues F q ≡ leadingValues G q
   leading-same q h =
       ap₂ (λ (k : ℕ) (l : List ℕ). q ∷ k ∷ l) (a .sizes q h)

@@ -1,13 +1,14 @@
 -- The names of the letters, s0 to s31, as the first bytes of one fixed text. Assumes nothing.
-use mathlib.Core.Path.{_≡_, refl, ap, sym, _∙_}
-use mathlib.Core.List.{List, [], _∷_, _++_, append-nil, append-assoc}
+use mathlib.Core.Path.{_≡_, refl, ap, _∙_}
+use mathlib.Core.List.{List, [], _∷_, _++_}
 use Prim.Native.Nat.{ℕ, zero, suc, _+_, _*_, _-_, _≤_, _<_}
 use native.Mathlib.Omega.{arith}
-use native.Mathlib.Nat.{add-suc, add-zero}
+use native.Mathlib.Nat.{add-suc}
 use native.Mathlib.Decide.{decLt}
 use lib.ListN.{length, take, length-append}
 use lib.Seq.{take-append-seam}
 use Rattle.slices.specs.Tables.{rows}
+use Rattle.slices.proofs.Tables.{rows-cut}
 use Rattle.numbers.specs.Digits.{digitsWithin, digitsOf}
 use Rattle.numbers.proofs.Digits.{digits-one, digits-two}
 use Rattle.notation.specs.Text.{names}
@@ -19,14 +20,6 @@ allNames = 32 ∷ 115 ∷ 48 ∷ 32 ∷ 115 ∷ 49 ∷ 32 ∷ 115 ∷ 50 ∷ 32 
 all-names : allNames ≡ names 32
 unfolding rows digitsOf digitsWithin
 all-names = refl
-
--- rows, cut in two
-rows-cut : (m k : ℕ) (f : ℕ → List ℕ) → rows (m + k) f ≡ rows m f ++ rows k (λ i. f (m + i))
-unfolding rows
-rows-cut m zero f = ap (λ (n : ℕ). rows n f) (add-zero m) ∙ sym (append-nil (rows m f))
-rows-cut m (suc k) f =
-    ap (λ (n : ℕ). rows n f) (add-suc m k)
-    ∙ (ap (λ (l : List ℕ). l ++ f (m + k)) (rows-cut m k f) ∙ append-assoc (rows m f) (rows k (λ i. f (m + i))) (f (m + k)))
 
 pub names-of : (s : ℕ) → s ≤ 32 → take (length (names s)) allNames ≡ names s
 names-of s h =

@@ -76,6 +76,24 @@ module _ (b : List ℕ) (v : Valid b) where
       (rows-same n _ (λ q. tab (len q) (λ i. byte (base + (sum q len + i)))) whole-part ∙ rows-tab n len (λ i. byte (base + i)))
       ∙ (tab-append base (sum n len) byte ∙ (ap (λ (m : ℕ). tab m byte) (sym (v .exact)) ∙ tab-getD b))
 
+-- families that agree have one packed form
+module _ (F G : Fdfa) (a : Agrees F G) where
+  part-same : (q : ℕ) → q < F .states → partBytes F q ≡ partBytes G q
+  part-same q h =
+      ap₂ (λ (x y : List ℕ). x ++ y)
+      (rows-same (F .size q) (λ p. tab (F .letters) (F .progress q p)) (λ p. tab (F .letters) (G .progress q p)) (λ p k. tab-same (F .letters) (F .progress q p) (G .progress q p) (λ b l. a .progresses q p b h k l))
+      ∙ (λ i. table (a .sizes q h i) (a .letters i) (G .progress q)))
+      (tab-same (F .size q) (λ p. mark (F .accepting q p)) (λ p. mark (G .accepting q p)) (λ p k. ap mark (a .marks q p h k)) ∙ ap (λ (k : ℕ). tab k (λ p. mark (G .accepting q p))) (a .sizes q h))
+
+  pub pack-same : pack F ≡ pack G
+  pack-same =
+      ap₂ (λ (x y : List ℕ). x ++ y)
+      (ap₂ (λ (x y : List ℕ). x ++ y)
+      (ap₂ (λ (x y : List ℕ). x ++ y) (λ i. a .letters i ∷ a .states i ∷ []) (tab-same (F .states) (F .size) (G .size) (a .sizes) ∙ ap (λ (k : ℕ). tab k (G .size)) (a .states)))
+      (rows-same (F .states) (λ q. tab (F .letters) (F .step q)) (λ q. tab (F .letters) (G .step q)) (λ q h. tab-same (F .letters) (F .step q) (G .step q) (λ b l. a .steps q b h l))
+      ∙ (λ i. table (a .states i) (a .letters i) (G .step))))
+      (rows-same (F .states) (partBytes F) (partBytes G) part-same ∙ ap (λ (k : ℕ). rows k (partBytes G)) (a .states))
+
 -- bytes of a list from a place on, as a table
 slice-tab : (b : List ℕ) (a m : ℕ) → a + m ≤ length b → take m (drop a b) ≡ tab m (λ i. getD b (a + i) 0)
 slice-tab b a m h =

@@ -1,10 +1,10 @@
 -- Tables of functions: their lengths, their entries, and how they join. Assumes nothing.
 use mathlib.Core.Path.{_≡_, refl, ap, ap₂, sym, subst, _∙_}
 use mathlib.Core.List.{List, [], _∷_, _++_, append-nil, append-assoc}
-use Prim.Native.Nat.{ℕ, zero, suc, _+_, _*_, _-_, _/_, _%_, _≤_, _<_}
+use Prim.Native.Nat.{ℕ, zero, suc, _+_, _*_, _/_, _%_, _≤_, _<_}
 use native.Mathlib.Omega.{arith}
 use native.Mathlib.Decide.{ℕ-discrete}
-use native.Mathlib.Nat.{suc-mul, add-suc, add-zero, add-mul, one-mul, mul-le-mul-right, div-add-mod', div-lt-iff-lt-mul, mod-lt}
+use native.Mathlib.Nat.{zero-mul, suc-mul, add-suc, add-zero, add-mul, one-mul, mul-le-mul-right, div-add-mod', div-lt-iff-lt-mul, mod-lt}
 use lib.ListN.{length, getD, length-append, List·getD-append}
 use lib.Seq.{getD-append-add, ext-getD}
 use Rattle.slices.specs.Tables.{tab, rows, sum, table}
@@ -76,6 +76,21 @@ pub table-tab : (k s : ℕ) (f : ℕ → ℕ) → table k s (λ q a. f (q * s + 
 table-tab k s f =
     rows-same k (λ q. tab s (λ a. f (q * s + a))) (λ q. tab s (λ i. f (sum q (λ r. s) + i))) (λ q h. ap (λ (n : ℕ). tab s (λ a. f (n + a))) (sym (sum-even q s)))
     ∙ (rows-tab k (λ r. s) f ∙ ap (λ (n : ℕ). tab n f) (sum-even k s))
+
+-- rows, cut in two
+pub rows-cut : (m k : ℕ) (f : ℕ → List ℕ) → rows (m + k) f ≡ rows m f ++ rows k (λ i. f (m + i))
+unfolding rows
+rows-cut m zero f = ap (λ (n : ℕ). rows n f) (add-zero m) ∙ sym (append-nil (rows m f))
+rows-cut m (suc k) f =
+    ap (λ (n : ℕ). rows n f) (add-suc m k)
+    ∙ (ap (λ (l : List ℕ). l ++ f (m + k)) (rows-cut m k f) ∙ append-assoc (rows m f) (rows k (λ i. f (m + i))) (f (m + k)))
+
+-- s rows for each of k, as one
+pub rows-rows : (k s : ℕ) (f : ℕ → List ℕ) → rows k (λ q. rows s (λ a. f (q * s + a))) ≡ rows (k * s) f
+unfolding rows
+rows-rows zero s f = ap (λ (n : ℕ). rows n f) (sym (zero-mul s))
+rows-rows (suc k) s f =
+    ap (λ (l : List ℕ). l ++ rows s (λ a. f (k * s + a))) (rows-rows k s f) ∙ (sym (rows-cut (k * s) s f) ∙ ap (λ (n : ℕ). rows n f) (sym (suc-mul k s)))
 
 pub length-rows : (m : ℕ) (f : ℕ → List ℕ) → length (rows m f) ≡ sum m (λ q. length (f q))
 unfolding rows sum
@@ -151,3 +166,21 @@ unfolding sum
 sum-le zero f c h = omega arith
 sum-le (suc m) f c h =
     omega (arith, sum-le m f c (λ q l. h q (omega arith)), h m (omega arith), suc-mul m c)
+
+-- what holds below m, and of m
+pub below-suc : (P : ℕ → Type 0) {m : ℕ} → ((i : ℕ) → i < m → P i) → P m → (i : ℕ) → i < suc m → P i
+below-suc P {m} h last i l = by (ℕ-discrete i m)
+  where
+    by : Dec (i ≡ m) → P i
+    by (yes e) = subst P (sym e) last
+    by (no e) = h i (omega arith)
+
+-- rows that are empty from m on
+pub rows-until : (m n : ℕ) (f : ℕ → List ℕ) → m ≤ n → ((i : ℕ) → m ≤ i → i < n → f i ≡ []) → rows n f ≡ rows m f
+unfolding rows
+rows-until m zero f h e = let z : 0 ≡ m = omega arith in ap (λ (k : ℕ). rows k f) z
+rows-until m (suc n) f h e = by (ℕ-discrete m (suc n)) (rows-until m n f)
+  where
+    by : Dec (m ≡ suc n) → (m ≤ n → ((i : ℕ) → m ≤ i → i < n → f i ≡ []) → rows n f ≡ rows m f) → rows (suc n) f ≡ rows m f
+    by (yes d) ih = ap (λ (k : ℕ). rows k f) (sym d)
+    by (no d) ih = ap (λ (l : List ℕ). rows n f ++ l) (e n (omega arith) (omega arith)) ∙ (append-nil (rows n f) ∙ ih (omega arith) (λ i k l. e i k (omega arith)))

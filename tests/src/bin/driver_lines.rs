@@ -2,7 +2,8 @@
 //!
 //! driver_lines stored STDIN STDOUT                        a stored input and output agree with what is due
 //! driver_lines random COUNT [SEED] [--driver PATH]        lines at random through one run of the driver (else FDFA_DRIVER is its path)
-//! driver_lines changes [--driver PATH]                    every change of one byte of a sheet's text and of a show's, and long shows, in the same way
+//! driver_lines changes [--driver PATH]                    every change of one byte of a sheet's text, a show's and an automaton's, and long shows, in the same way
+//! driver_lines imports [--driver PATH]                    automata at random, imported, and verdicts on their sheets, in the same way
 //! driver_lines rows [STDIN STDOUT]                        the rows to store, each with what is due; or both into two files
 //! driver_lines line SEED                                  one line at random, with what is due
 //! driver_lines answer [--wrong KIND]                      stands in for the driver, with a fault or without
@@ -12,6 +13,7 @@ use outside::driver::calls::{answer, lines};
 use outside::driver::changes::changed_lines;
 use outside::driver::coverage::Coverage;
 use outside::driver::damaged_answer::{damages, KINDS};
+use outside::driver::imported::imported_lines;
 use outside::driver::long_shows::long_lines;
 use outside::driver::random_line::Sent;
 use outside::driver::report::Report;
@@ -31,7 +33,8 @@ fn main() -> ExitCode {
     let result = match words.as_slice() {
         ["stored", input, output] => stored(input, output),
         ["random", rest @ ..] => random(rest),
-        ["changes", rest @ ..] => changes(rest),
+        ["changes", rest @ ..] => fixed(rest, changed_lines().chain(long_lines()), "changes of one byte, long shows"),
+        ["imports", rest @ ..] => fixed(rest, imported_lines(SEED), "automata and verdicts on their sheets"),
         ["rows"] => print_rows(),
         ["rows", input, output] => store_rows(input, output),
         ["line", seed] => number(seed).map(one_line),
@@ -39,7 +42,7 @@ fn main() -> ExitCode {
         ["answer", "--wrong", kind] => stand_in::run(Some(kind)),
         ["self-test"] => self_test(),
         _ => {
-            Err("usage: driver_lines stored STDIN STDOUT | random COUNT [SEED] [--driver PATH] | changes | rows | self-test"
+            Err("usage: driver_lines stored STDIN STDOUT | random COUNT [SEED] [--driver PATH] | changes | imports | rows | self-test"
                 .into())
         }
     };
@@ -88,12 +91,13 @@ fn random(words: &[&str]) -> Result<(), String> {
     send(driver, random_lines(seed, count as usize), seed % 2 == 0, &format!("seed {seed}"))
 }
 
-fn changes(words: &[&str]) -> Result<(), String> {
+/// Lines that are the same on every run.
+fn fixed(words: &[&str], lines: impl Iterator<Item = Sent> + Send + 'static, of: &str) -> Result<(), String> {
     let (words, driver) = driver(words)?;
     if !words.is_empty() {
-        return Err("changes takes no words but the driver's path".to_string());
+        return Err("these lines take no words but the driver's path".to_string());
     }
-    send(driver, changed_lines().chain(long_lines()), true, "changes of one byte, long shows")
+    send(driver, lines, true, of)
 }
 
 /// The words but the driver's path, and that path.

@@ -1,7 +1,7 @@
 //! complement, intersection and union.
 
 use crate::boolean;
-use crate::driver::calls::{filled, room_needed};
+use crate::driver::calls::{filled, one_slice, room_needed};
 use crate::driver::line::{byte_slices, print, NoCall};
 use crate::driver::random_line::{lent, spelled};
 use crate::driver::random_sheets::{faulty_pair, sheet};
@@ -12,9 +12,7 @@ use crate::random::Random;
 use crate::sheet::MOST;
 
 pub fn complement(words: &[&[u8]], _: &mut Search) -> Result<String, NoCall> {
-    let [sheet, mut out] = byte_slices(words)?;
-    let answer = filled(boolean::complement(&sheet, &mut out));
-    Ok(format!("{answer} | {}", print(&out)))
+    one_slice(words, boolean::complement)
 }
 
 pub fn intersection(words: &[&[u8]], _: &mut Search) -> Result<String, NoCall> {

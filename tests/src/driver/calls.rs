@@ -1,7 +1,7 @@
 //! The table of calls, and what the driver prints for a line.
 
-use crate::driver::line::{NoCall, LONGEST_LINE};
-use crate::driver::{boolean, cursor, inclusion, membership, notation, shows};
+use crate::driver::line::{byte_slices, print, NoCall, LONGEST_LINE};
+use crate::driver::{boolean, cursor, imports, inclusion, membership, notation, shows};
 use crate::inclusion::Search;
 use crate::random::Random;
 use crate::sheet::{Part, Refusal};
@@ -142,6 +142,16 @@ pub const CALLS: &[Call] = &[
         outcomes: &[&["filled", "refused 9 opening", "refused 8 loop", "refused 9 loop", "refused 21 out"]],
         lent: OUT,
     },
+    Call {
+        name: "import",
+        answer: imports::import,
+        random: imports::random_import,
+        outcomes: &[
+            &["filled", "refused 2 first", "refused 3 first", "refused 5 first", "refused 11 first"],
+            &["refused 12 first", "refused 13 first", "refused 21 out"],
+        ],
+        lent: OUT,
+    },
 ];
 
 /// What is printed for a line, both without the line feed; the error says why the line is no call.
@@ -177,6 +187,13 @@ pub fn room_needed<T>(result: Result<T, Refusal>) -> usize {
         Err(Refusal { number: 21 | 22, place, .. }) => place,
         _ => 20,
     }
+}
+
+/// What is printed for a call that is given a slice and fills the out slice.
+pub fn one_slice(words: &[&[u8]], call: fn(&[u8], &mut [u8]) -> Result<usize, Refusal>) -> Result<String, NoCall> {
+    let [given, mut out] = byte_slices(words)?;
+    let answer = filled(call(&given, &mut out));
+    Ok(format!("{answer} | {}", print(&out)))
 }
 
 /// The answer of a call that fills the out slice.

@@ -1,21 +1,38 @@
-//! Every change of one byte, in two texts: 01's text of sheet B for `read`, a show's text of ten lines for `read-show`.
+//! Every change of one byte of some texts: 01's text of sheet B for `read`, a show's text of ten lines for `read-show`, and for `import`
+//! automata of five places, of twelve, and of twelve scenes.
 
 use crate::driver::calls::answer;
 use crate::driver::line::print;
 use crate::driver::random_line::Sent;
-use crate::driver::rows::{TEN_LINES, TEXT_OF_B};
+use crate::driver::rows::{FIVE_PLACES, TEN_LINES, TEXT_OF_B};
 use crate::inclusion::Search;
 
 /// Each text with its call, and slices that have room for one cell more than it fills.
-const TEXTS: [(&str, &str, &str); 2] = [("read", TEXT_OF_B, "12*9"), ("read-show", TEN_LINES, "5*8 6*9")];
+const TEXTS: [(&str, &str, &str); 5] = [
+    ("read", TEXT_OF_B, "12*9"),
+    ("read-show", TEN_LINES, "5*8 6*9"),
+    ("import", FIVE_PLACES, "168*9"),
+    ("import", TWELVE_PLACES, "603*9"),
+    ("import", TWELVE_SCENES, "42*9"),
+];
+
+/// Texts with numbers of two digits.
+const TWELVE_PLACES: &str =
+    "[0]\ns0,[0]->[1]\ns0,[1]->[2]\ns0,[2]->[3]\ns0,[3]->[4]\ns0,[4]->[5]\ns0,[5]->[6]\ns0,[6]->[7]\n\
+    s0,[7]->[8]\ns0,[8]->[9]\ns0,[9]->[10]\ns0,[10]->[11]\ns0,[11]->[1]\n[4]\n[11]\n";
+const TWELVE_SCENES: &str =
+    "[0]\ns0,[0]->[0]\ns1,[0]->[0]\ns2,[0]->[0]\ns3,[0]->[0]\ns4,[0]->[0]\ns5,[0]->[0]\ns6,[0]->[0]\n\
+    s7,[0]->[0]\ns8,[0]->[0]\ns9,[0]->[0]\ns10,[0]->[0]\ns11,[0]->[0]\n[0]\n";
 
 /// Each byte of each text as every byte, every byte inserted at each place, each byte removed, and the text cut off at each place.
 pub fn changed_lines() -> impl Iterator<Item = Sent> {
+    TEXTS.into_iter().flat_map(changed_lines_of)
+}
+
+fn changed_lines_of((call, text, lent): (&'static str, &'static str, &'static str)) -> impl Iterator<Item = Sent> {
     let mut search = Search::default();
-    let texts = TEXTS.into_iter().flat_map(|(call, text, lent)| {
-        changed(text.as_bytes()).map(move |(name, text)| (name, format!("{call} {} {lent}", print(&text))))
-    });
-    texts.map(move |(name, line)| {
+    changed(text.as_bytes()).map(move |(name, text)| {
+        let line = format!("{call} {} {lent}", print(&text));
         let due = answer(line.as_bytes(), &mut search);
         Sent { name, line: line.into_bytes(), due }
     })
@@ -45,17 +62,17 @@ mod tests {
     use super::*;
     use std::collections::BTreeMap;
 
-    /// How many lines of one call are answered by which words, of the changes that are named so.
-    fn outcomes(call: &str, name: &str) -> BTreeMap<String, usize> {
-        let mut counts = BTreeMap::new();
-        for Sent { line, due, .. } in changed_lines().filter(|sent| sent.name.contains(name)) {
-            if line.starts_with(format!("{call} ").as_bytes()) {
-                let due = String::from_utf8(due).unwrap();
-                let words = if due.starts_with("refused") { 2 } else { 1 };
-                *counts.entry(due.split(' ').take(words).collect::<Vec<_>>().join(" ")).or_default() += 1;
-            }
+    /// How many lines of a text are answered by which words: a byte changed, inserted, removed, the text cut off.
+    fn outcomes(text: usize) -> [BTreeMap<String, usize>; 4] {
+        let mut outcomes = [const { BTreeMap::new() }; 4];
+        for Sent { name, due, .. } in changed_lines_of(TEXTS[text]) {
+            let kind = [" as ", " inserted at ", " removed", "cut off"].iter().position(|kind| name.contains(kind));
+            let due = String::from_utf8(due).unwrap();
+            let words = if due.starts_with("refused") { 2 } else { 1 };
+            let words = due.split(' ').take(words).collect::<Vec<_>>().join(" ");
+            *outcomes[kind.unwrap()].entry(words).or_default() += 1;
         }
-        counts
+        outcomes
     }
 
     fn counts<const N: usize>(counts: [(&str, usize); N]) -> BTreeMap<String, usize> {
@@ -70,21 +87,58 @@ mod tests {
         // Twice 41 to 91 and 32 to 39; 40 to 90; 39 to 99. And a line feed as a digit, not after 0, which makes bad form, nor after 2.
         let large = 2 * (6 + 8) + 6 + 7 + 6 * 10;
         let changes = counts([("filled", read), ("refused 9", large), ("refused 11", 90 * 256 - read - large)]);
-        assert_eq!(outcomes("read-show", " as "), changes);
+        let outcomes = outcomes(1);
+        assert_eq!(outcomes[0], changes);
         // 10, 20, 30, twice; 17, 27; 15, 25; 12, 22 and 20 to 29.
-        let inserted = outcomes("read-show", " inserted at ");
-        assert_eq!(inserted["filled"], 2 * 3 + 2 + 2 + 2 + 10);
-        assert_eq!(inserted.values().sum::<usize>(), 91 * 256);
+        assert_eq!(outcomes[1]["filled"], 2 * 3 + 2 + 2 + 2 + 10);
+        assert_eq!(outcomes[1].values().sum::<usize>(), 91 * 256);
         // One digit of two.
-        assert_eq!(outcomes("read-show", " removed"), counts([("filled", 8), ("refused 11", 82)]));
+        assert_eq!(outcomes[2], counts([("filled", 8), ("refused 11", 82)]));
         // Cut off after the names or an opening line; after a loop line; elsewhere.
         let cut = counts([("refused 8", 5), ("filled", 4), ("refused 11", 81)]);
-        assert_eq!(outcomes("read-show", "cut off"), cut);
+        assert_eq!(outcomes[3], cut);
+    }
+
+    /// Counted by hand, from the scenes 0 and 1, the sources 0 to 4, ten targets, of which two are 0, and the accepting places 0 and 3.
+    #[test]
+    fn the_changes_of_the_automaton_have_the_outcomes_counted_by_hand() {
+        // Every byte as itself; four other targets, ten times; 1 and 2 for the first accepting place; 1, 2 and 4 for the last.
+        let read = 132 + 10 * 4 + 2 + 3;
+        // 5 to 9 for each target and for the last accepting place.
+        let beyond = 10 * 5 + 5;
+        // Another scene or source; 3 to 9 for the first accepting place, 0 for the last; a digit after each scene 1 and each source but 0.
+        let turn = 10 * 9 + 10 * 9 + 7 + 1 + 5 * 10 + 8 * 10;
+        let rest = 132 * 256 - read - beyond - turn;
+        let changes = [("filled", read), ("refused 5", beyond), ("refused 12", turn), ("refused 11", rest)];
+        let outcomes = outcomes(2);
+        assert_eq!(outcomes[0], counts(changes));
+        // A digit but 0 before each target and the last accepting place; any digit after the eight targets that are not 0, and after it.
+        let beyond = 10 * 9 + 9 + 8 * 10 + 10;
+        // The same of scenes, of which five are 0, of sources, of which two are 0, and before the first accepting place.
+        let turn = (10 * 9 + 5 * 10) + (10 * 9 + 8 * 10) + 9;
+        let rest = 133 * 256 - beyond - turn;
+        let inserted = [("refused 5", beyond), ("refused 12", turn), ("refused 11", rest)];
+        assert_eq!(outcomes[1], counts(inserted));
+        assert_eq!(outcomes[2], counts([("refused 11", 132)]));
+        // After the first line of place 0 and after each whole place; after the first accepting place.
+        let cut = [("refused 13", 1 + 5), ("filled", 1), ("refused 11", 125)];
+        assert_eq!(outcomes[3], counts(cut));
+    }
+
+    /// Their own texts, and the slices one cell too long for these.
+    #[test]
+    fn the_other_automata_are_in_order() {
+        for (at, length) in [(3, 602), (4, 41)] {
+            let (call, text, lent) = TEXTS[at];
+            let line = format!("{call} {} {lent}", print(text.as_bytes()));
+            let due = String::from_utf8(answer(line.as_bytes(), &mut Search::default())).unwrap();
+            assert!(due.starts_with(&format!("filled {length} | ")) && due.ends_with(",9"), "{due}");
+        }
     }
 
     #[test]
     fn the_text_of_b_has_as_many_changes_that_are_read_as_were_once_counted() {
-        let changes = outcomes("read", " as ");
+        let [changes, ..] = outcomes(0);
         assert_eq!((changes["filled"], changes.values().sum::<usize>()), (100, 94 * 256));
     }
 }

@@ -1,9 +1,10 @@
 //! The program `driver` held to the independent implementation: one line in, one line out.
 //!
 //! `line` has the words of a line; `calls` the table of calls and what a line prints; `membership`, `boolean`, `inclusion`, `cursor`,
-//! `notation` and `shows` answer the calls of their subject and make lines for them at random. `random_line` mixes those with damaged
-//! lines and comments, `changes` has every change of one byte of two texts, `long_shows` shows at the programs' bounds, `session` sends lines through one run of the driver,
-//! `report` compares what it prints, `coverage` counts the outcomes, and `rows` has the lines that are stored.
+//! `notation`, `shows` and `imports` answer the calls of their subject and make lines for them at random. `random_line` mixes those with
+//! damaged lines and comments, `changes` has every change of one byte of five texts, `long_shows` shows at the programs' bounds,
+//! `imported` automata with verdicts on their sheets, `session` sends lines through one run of the driver, `report` compares what it
+//! prints, `coverage` counts the outcomes, and `rows` has the lines that are stored.
 
 pub mod boolean;
 pub mod calls;
@@ -12,11 +13,14 @@ pub mod coverage;
 pub mod cursor;
 pub mod damaged_answer;
 pub mod damaged_line;
+pub mod imported;
+pub mod imports;
 pub mod inclusion;
 pub mod line;
 pub mod long_shows;
 pub mod membership;
 pub mod notation;
+pub mod random_automaton;
 pub mod random_line;
 pub mod random_sheets;
 pub mod random_show;

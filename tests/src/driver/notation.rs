@@ -1,7 +1,7 @@
 //! number, read and write.
 
-use crate::driver::calls::{filled, refused, room_needed};
-use crate::driver::line::{self, byte_slices, print, slice, NoCall};
+use crate::driver::calls::{one_slice, refused, room_needed};
+use crate::driver::line::{self, slice, NoCall};
 use crate::driver::random_line::{lent, spelled};
 use crate::driver::random_sheets::{in_order, sheet};
 use crate::driver::random_text::{any_text, damaged};
@@ -22,15 +22,11 @@ pub fn number(words: &[&[u8]], _: &mut Search) -> Result<String, NoCall> {
 }
 
 pub fn read(words: &[&[u8]], _: &mut Search) -> Result<String, NoCall> {
-    let [text, mut out] = byte_slices(words)?;
-    let answer = filled(sheet_text::read(&text, &mut out));
-    Ok(format!("{answer} | {}", print(&out)))
+    one_slice(words, sheet_text::read)
 }
 
 pub fn write(words: &[&[u8]], _: &mut Search) -> Result<String, NoCall> {
-    let [sheet, mut out] = byte_slices(words)?;
-    let answer = filled(sheet_text::write(&sheet, &mut out));
-    Ok(format!("{answer} | {}", print(&out)))
+    one_slice(words, sheet_text::write)
 }
 
 pub fn random_number(random: &mut Random, _: &mut Search) -> String {

@@ -1,6 +1,6 @@
 //! Lassos at random and their texts, with a fault in every kind of place.
 
-use crate::driver::random_text::{split, with_other_byte, with_other_end, with_other_lines, NUMBERS};
+use crate::driver::random_text::{ended, lines, split, with_any_fault, with_faults, with_line, NUMBERS};
 use crate::random::Random;
 use crate::sheet::MOST;
 
@@ -38,24 +38,12 @@ pub fn faulty_lasso(random: &mut Random, letters: usize) -> (Vec<u8>, Vec<u8>) {
 
 /// A lasso's text with a fault or several (or, by luck, with none): in a number, a byte, a line, or at the end.
 pub fn damaged(random: &mut Random, text: Vec<u8>) -> Vec<u8> {
-    let damaged = match random.below(16) {
+    with_faults(random, text, |random, text| match random.below(16) {
         0..=4 => with_other_number(random, &text),
-        5..=6 => with_other_byte(random, text),
-        7..=8 => with_other_lines(random, &text),
-        9..=10 => with_other_end(random, text),
-        11 => with_carriage_returns(random, &text),
+        5..=11 => with_any_fault(random, text),
         12..=13 => with_another_line(random, &text),
         _ => without_period(random, &text),
-    };
-    // What is left may be too short for another fault.
-    if damaged.len() > 1 && damaged.iter().any(u8::is_ascii_alphabetic) && random.once_in(4) {
-        return self::damaged(random, damaged);
-    }
-    damaged
-}
-
-fn lines(text: &[u8]) -> Vec<Vec<u8>> {
-    text.split_inclusive(|&byte| byte == b'\n').map(<[u8]>::to_vec).collect()
+    })
 }
 
 /// Another number in the last column of one line, or none.
@@ -73,22 +61,8 @@ fn with_other_number(random: &mut Random, text: &[u8]) -> Vec<u8> {
     lines.join(&b'\n')
 }
 
-/// A carriage return before one line feed, or before each.
-fn with_carriage_returns(random: &mut Random, text: &[u8]) -> Vec<u8> {
-    let mut lines = lines(text);
-    let all = random.once_in(2);
-    let one = random.below(lines.len());
-    for (at, line) in lines.iter_mut().enumerate() {
-        if (all || at == one) && line.ends_with(b"\n") {
-            line.insert(line.len() - 1, b'\r');
-        }
-    }
-    lines.concat()
-}
-
 /// One more line: of either part anywhere, the names once more, an empty one.
 fn with_another_line(random: &mut Random, text: &[u8]) -> Vec<u8> {
-    let mut lines = lines(text);
     let letter = random.below(MOST);
     let line = match random.below(8) {
         0 => "\n".to_string(),
@@ -97,20 +71,14 @@ fn with_another_line(random: &mut Random, text: &[u8]) -> Vec<u8> {
         3..=5 => format!("opening {letter}\n"),
         _ => format!("loop {letter}\n"),
     };
-    let at = random.between(0, lines.len());
-    lines.insert(at, line.into_bytes());
-    lines.concat()
+    with_line(random, text, line)
 }
 
 /// The text up to where the period begins; mostly properly ended.
 fn without_period(random: &mut Random, text: &[u8]) -> Vec<u8> {
     let mut lines = lines(text);
     lines.retain(|line| !line.starts_with(b"loop"));
-    let mut text = lines.concat();
-    if random.once_in(4) {
-        text.pop();
-    }
-    text
+    ended(random, &lines)
 }
 
 #[cfg(test)]

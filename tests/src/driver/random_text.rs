@@ -1,5 +1,5 @@
 //! Texts at random: digits with what may stand beside them, and sheets' texts with a fault in every kind of place. Faults that any text
-//! can have serve for shows' texts too.
+//! can have serve for the texts of shows and of automata too.
 
 use crate::driver::line::Cell;
 use crate::random::Random;
@@ -10,13 +10,16 @@ const DIGITS: [&str; 14] =
 const OTHERS: [&[u8]; 9] = [b" ", b"\n", b"\r", b"/", b":", b"s", b"\xb1", b"\0", b"-"];
 
 /// What may stand where a number is due: numbers in range and out of it, of good and bad form, and no numbers.
-pub const NUMBERS: [&str; 24] = [
+pub const NUMBERS: [&str; 27] = [
     "0",
     "1",
     "2",
     "3",
     "4",
     "5",
+    "15",
+    "16",
+    "17",
     "31",
     "32",
     "33",
@@ -91,12 +94,13 @@ fn with_other_number(random: &mut Random, text: &[u8]) -> Vec<u8> {
     lines.join(&b'\n')
 }
 
-fn other_number(random: &mut Random, word: &[u8]) -> Vec<u8> {
-    let value: usize = String::from_utf8_lossy(word).parse().expect("the text is that of a sheet");
+/// Another number in the place of this one, next to it or any.
+pub fn other_number(random: &mut Random, word: &[u8]) -> Vec<u8> {
+    let value: usize = String::from_utf8_lossy(word).parse().unwrap_or(0);
     match random.below(8) {
-        0 => (value + 1).to_string(),
+        0 => value.saturating_add(1).to_string(),
         1 => value.saturating_sub(1).to_string(),
-        2 => format!("{}", value + 256),
+        2 => value.saturating_add(256).to_string(),
         3 => format!("0{value}"),
         4 => {
             // In range or not: that is judged before the byte after the number.
@@ -108,11 +112,31 @@ fn other_number(random: &mut Random, word: &[u8]) -> Vec<u8> {
     .into_bytes()
 }
 
-/// One byte more, less or changed, mostly in a line of names.
-pub fn with_other_byte(random: &mut Random, mut text: Vec<u8>) -> Vec<u8> {
+/// A text with a fault or several (or, by luck, with none).
+pub fn with_faults(random: &mut Random, text: Vec<u8>, fault: fn(&mut Random, Vec<u8>) -> Vec<u8>) -> Vec<u8> {
+    let damaged = fault(random, text);
+    // What is left may be too short for another fault.
+    if damaged.len() > 1 && damaged.iter().any(u8::is_ascii_alphabetic) && random.once_in(4) {
+        return with_faults(random, damaged, fault);
+    }
+    damaged
+}
+
+/// A fault that any text can have: in a byte, a line, at the end, in the line ends.
+pub fn with_any_fault(random: &mut Random, text: Vec<u8>) -> Vec<u8> {
+    match random.below(7) {
+        0..=1 => with_other_byte(random, text),
+        2..=3 => with_other_lines(random, &text),
+        4..=5 => with_other_end(random, text),
+        _ => with_carriage_returns(random, &text),
+    }
+}
+
+/// One byte more, less or changed, mostly a letter.
+fn with_other_byte(random: &mut Random, mut text: Vec<u8>) -> Vec<u8> {
     let names: Vec<usize> = (0..text.len()).filter(|&at| text[at].is_ascii_alphabetic()).collect();
     let at = if random.once_in(2) { random.pick(&names) } else { random.below(text.len()) };
-    let byte = random.pick(b"0123456789 \n\r\tsxS_,\0\xff");
+    let byte = random.pick(b"0123456789 \n\r\tsxS_,[]->\0\xff");
     match random.below(4) {
         0 => text.insert(at, byte),
         1 => drop(text.remove(at)),
@@ -123,7 +147,7 @@ pub fn with_other_byte(random: &mut Random, mut text: Vec<u8>) -> Vec<u8> {
 }
 
 /// A line missing, twice, or changed with another.
-pub fn with_other_lines(random: &mut Random, text: &[u8]) -> Vec<u8> {
+fn with_other_lines(random: &mut Random, text: &[u8]) -> Vec<u8> {
     let mut lines = split(text, b'\n');
     let (at, other) = (random.below(lines.len()), random.below(lines.len()));
     match random.below(4) {
@@ -136,12 +160,47 @@ pub fn with_other_lines(random: &mut Random, text: &[u8]) -> Vec<u8> {
 }
 
 /// The text cut off somewhere, or going on.
-pub fn with_other_end(random: &mut Random, mut text: Vec<u8>) -> Vec<u8> {
+fn with_other_end(random: &mut Random, mut text: Vec<u8>) -> Vec<u8> {
     match random.below(4) {
         0 if random.once_in(32) => text.resize(u8::LONGEST.max(text.len()), b'0'),
         0 => text.truncate(text.len() - 1),
         1..=2 => text.truncate(random.below(text.len())),
         _ => text.extend(random.pick(&[&b"\n"[..], b"0", b" ", b"\0", b"0 0 0 0\n", b"level scenes places\n"])),
+    }
+    text
+}
+
+/// The lines with their line feeds.
+pub fn lines(text: &[u8]) -> Vec<Vec<u8>> {
+    text.split_inclusive(|&byte| byte == b'\n').map(<[u8]>::to_vec).collect()
+}
+
+/// A carriage return before one line feed, or before each.
+fn with_carriage_returns(random: &mut Random, text: &[u8]) -> Vec<u8> {
+    let mut lines = lines(text);
+    let all = random.once_in(2);
+    let one = random.below(lines.len());
+    for (at, line) in lines.iter_mut().enumerate() {
+        if (all || at == one) && line.ends_with(b"\n") {
+            line.insert(line.len() - 1, b'\r');
+        }
+    }
+    lines.concat()
+}
+
+/// One more line anywhere.
+pub fn with_line(random: &mut Random, text: &[u8], line: String) -> Vec<u8> {
+    let mut lines = lines(text);
+    let at = random.between(0, lines.len());
+    lines.insert(at, line.into_bytes());
+    lines.concat()
+}
+
+/// These lines, mostly properly ended.
+pub fn ended(random: &mut Random, lines: &[Vec<u8>]) -> Vec<u8> {
+    let mut text = lines.concat();
+    if random.once_in(4) {
+        text.pop();
     }
     text
 }

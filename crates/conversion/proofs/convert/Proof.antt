@@ -13,20 +13,24 @@ use Rattle.packed.specs.Faults.{sheetFault}
 use Rattle.notation.specs.Reading.{numbersOf, faultIn, bytesOf, readFault}
 use Rattle.notation.specs.Text.{textOf}
 use Rattle.notation.specs.Writing.{writeFault}
+use Rattle.buchi_import.specs.Reading as buchi
 use Rattle.console.proofs.Room.{fits}
 use Rattle.conversion.specs.declared.Way.{Way}
-use Rattle.conversion.specs.declared.Way.the-variants.{Pack, Unpack}
+use Rattle.conversion.specs.declared.Way.the-variants.{Pack, Unpack, Import}
 use Rattle.conversion.specs.Forms.{Converts}
 use borrow.Author.Needs.{needs}
 use Rattle.conversion.proofs.convert.Statement.{statement}
 use Rattle.conversion.proofs.convert.Tie as tie
 
--- either way, by the way that was taken
+-- each way, by the way that was taken
 packs : {w : Way} (t old : List ℕ) {out : List ℕ} {r : Written} → w ≡ Pack → Fills (readFault t (length old)) (bytesOf t) old out r → Converts w t old out r
 packs t old {out = out} {r = r} e h = subst (λ (w : Way). Converts w t old out r) (sym e) h
 
 unpacks : {w : Way} (b old : List ℕ) {out : List ℕ} {r : Written} → w ≡ Unpack → Fills (writeFault b (length old)) (textOf b) old out r → Converts w b old out r
 unpacks b old {out = out} {r = r} e h = subst (λ (w : Way). Converts w b old out r) (sym e) h
+
+imports : {w : Way} (t old : List ℕ) {out : List ℕ} {r : Written} → w ≡ Import → Fills (buchi.readFault t (length old)) (buchi.bytesOf t) old out r → Converts w t old out r
+imports t old {out = out} {r = r} e h = subst (λ (w : Way). Converts w t old out r) (sym e) h
 
 enum-told : tie.Need-enum-told
 enum-told c = search needs
@@ -39,6 +43,12 @@ enum-told-2 c = search needs
 
 write-requires : tie.Need-write-requires
 write-requires c κs = search needs
+
+enum-told-3 : tie.Need-enum-told-3
+enum-told-3 c = search needs
+
+import-requires : tie.Need-import-requires
+import-requires c κs = search needs
 
 same-length : tie.Need-same-length
 same-length c = search needs
@@ -67,6 +77,20 @@ returns-2 c = (
       omega (arith, h, c .before .before .write .kept .1 .0),
 )
 
+same-length-3 : tie.Need-same-length-3
+same-length-3 c = search needs
+
+returns-3 : tie.Need-returns-3
+unfolding buchi.readFault buchi.bytesOf
+returns-3 c = (
+  imports (now (c .before .before .before .before .before .before .before .before .args .source)) (now (c .before .before .before .before .before .before .before .before .args .out)) (c .before .before .before .before .enum-told3 .given .1) (c .before .before .import .ensures),
+  λ n e.
+      let s = c .before .before .before .before .before .before .before .before .args in
+      let t = now (s .source) in
+      let h = fits (buchi.faultIn (buchi.numbersOf t)) (length (now (s .out))) (length (buchi.bytesOf t)) (sym (ap writtenSays e) ∙ c .before .before .import .ensures .says) in
+      omega (arith, h, c .before .before .import .kept .1 .0),
+)
+
 pub convert-spec : {M : Type 1} → statement M
 convert-spec =
     tie.close
@@ -75,7 +99,11 @@ convert-spec =
     read-requires
     enum-told-2
     write-requires
+    enum-told-3
+    import-requires
     same-length
     returns
     same-length-2
-    returns-2)
+    returns-2
+    same-length-3
+    returns-3)

@@ -3,6 +3,9 @@
 //! What is stated is written by hand, from the papers; a test holds the independent implementation to it.
 
 mod forms;
+mod import_edits;
+mod import_faults;
+mod imports;
 mod refusals;
 mod searches;
 mod shows;
@@ -15,6 +18,7 @@ use crate::driver::line::print;
 use crate::inclusion::Search;
 use crate::rows::{complemented, A, B, C, D, E, HALL, LEFT, RIGHT};
 
+pub use import_edits::FIVE_PLACES;
 pub use shows::TEN_LINES;
 pub use texts::TEXT_OF_B;
 
@@ -32,6 +36,9 @@ pub fn rows() -> Vec<Row> {
     rows.extend(texts::rows());
     rows.extend(forms::rows());
     rows.extend(shows::rows());
+    rows.extend(imports::rows());
+    rows.extend(import_edits::rows());
+    rows.extend(import_faults::rows());
     rows
 }
 

@@ -30,8 +30,8 @@ stands-requires c κs = search needs
 loop-holds : tie.Need-loop-holds Inv-loop μ-loop
 loop-holds c = let s = c .before .before .before .before .before in (c .stands .ensures, lined-none _ _ _ _ _ _ (s .pre .0))
 
-read-line-requires : tie.Need-read-line-requires Inv-loop μ-loop
-read-line-requires c κs = c .before .loop .inv .1 .inside
+read-labelled-requires : tie.Need-read-labelled-requires Inv-loop μ-loop
+read-labelled-requires c κs = c .before .loop .inv .1 .going .inside
 
 enum-known-found : tie.Need-enum-known-found Inv-loop μ-loop
 enum-known-found c = search needs
@@ -43,7 +43,7 @@ returns : tie.Need-returns Inv-loop μ-loop
 returns c =
     let b = c .before .before .before in
     let i = b .before .before .loop in
-    lined-refused (i .inv .1) (sym (i .inv .0) ∙ b .before .loop-test .taken) (sym (b .read-line .ensures) ∙ ap cellSays (c .before .found .given .1)) refl (stored-length (i .inv .1 .stored))
+    lined-refused (i .inv .1) (sym (i .inv .0) ∙ b .before .loop-test .taken) (sym (b .read-labelled .ensures) ∙ ap cellSays (c .before .found .given .1)) refl (stored-length (i .inv .1 .stored))
 
 enum-known-found-2 : tie.Need-enum-known-found-2 Inv-loop μ-loop
 enum-known-found-2 c = search needs
@@ -53,14 +53,14 @@ narrow-requires c κs =
     let b = c .before .before .before .before in
     let i = b .before .before .loop in
     let s = b .before .before .before .before .before .before .before .before in
-    let t = line-takes (i .inv .1) (sym (b .read-line .ensures) ∙ ap cellSays (c .before .before .found2 .given .1)) in
+    let t = line-takes (i .inv .1) (sym (b .read-labelled .ensures) ∙ ap cellSays (c .before .before .found2 .given .1)) in
     omega (arith, t .high, s .pre .2)
 
 put-requires : tie.Need-put-requires Inv-loop μ-loop
 put-requires c κs =
     let i = c .before .before .before .before .before .before .before .loop in
     let s = c .before .before .before .before .before .before .before .before .before .before .before .before .before in
-    omega (arith, i .inv .1 .ahead, i .inv .1 .inside, s .good)
+    omega (arith, i .inv .1 .going .ahead, i .inv .1 .going .inside, s .good)
 
 -- one line more
 more : (c : tie.After-put Inv-loop μ-loop) → let b = c .before .before .before .before .before .before in let s = b .before .before .before .before .before .before .before .before in
@@ -69,7 +69,7 @@ more c =
     let b = c .before .before .before .before .before .before in
     let i = b .before .before .loop in
     let s = b .before .before .before .before .before .before .before .before in
-    lined-more (i .inv .1) (s .pre .1) (sym (i .inv .0) ∙ b .before .loop-test .taken) (sym (b .read-line .ensures) ∙ ap cellSays (c .before .before .before .before .found2 .given .1))
+    lined-more (i .inv .1) (s .pre .1) (sym (i .inv .0) ∙ b .before .loop-test .taken) (sym (b .read-labelled .ensures) ∙ ap cellSays (c .before .before .before .before .found2 .given .1))
     (stored-as (λ k. c .before .narrow .ensures k ∷ []) (c .put .ensures))
 
 stands-requires-2 : tie.Need-stands-requires-2 Inv-loop μ-loop
@@ -79,7 +79,7 @@ loop-less : tie.Need-loop-less Inv-loop μ-loop
 loop-less c =
     let b = c .before .before .before in
     let m = more b in
-    omega (arith, m .ahead, m .inside, b .put .ensures .next)
+    omega (arith, m .going .ahead, m .going .inside, b .put .ensures .next)
 
 loop-again : tie.Need-loop-again Inv-loop μ-loop
 loop-again c = (c .stands2 .ensures, more (c .before .before .before))
@@ -99,7 +99,7 @@ read-lines-spec =
     shared-slice-read-first
     stands-requires
     loop-holds
-    read-line-requires
+    read-labelled-requires
     enum-known-found
     same-length
     returns
