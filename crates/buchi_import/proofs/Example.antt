@@ -6,7 +6,7 @@ use Prim.Native.Nat.{ℕ, _+_, _%_}
 use lib.Dec.{eqb}
 use Rattle.slices.specs.declared.Part.the-variants.{First}
 use Rattle.slices.specs.Extremes.{least}
-use Rattle.slices.specs.Refusals.{Fault, faultOf}
+use Rattle.slices.specs.Refusals.{Fault, faultOf, faultIn}
 use Rattle.slices.specs.Scans.{firstOutside}
 use Rattle.slices.specs.Tables.{tab, rows}
 use Rattle.fdfa.specs.Inclusion.{countBelow}
@@ -17,7 +17,7 @@ use Rattle.numbers.specs.Numerals.{runOf, valueOf, numberAt}
 use Rattle.format.specs.Format.{reading, seq, each, chained}
 use Rattle.format.specs.Lines.{labelled, repeats, repeated}
 use Rattle.buchi_import.specs.Text.{buchiText}
-use Rattle.buchi_import.specs.Reading.{transition, transitions, acceptingState, acceptingStates, numbersBelow, numbersOf, isIn, bytesIn, faultIn}
+use Rattle.buchi_import.specs.Reading.{transition, transitions, acceptingState, acceptingStates, numbersBelow, numbersOf, isIn, bytesIn}
 
 -- [0]
 abbrev start : List ℕ

@@ -10,8 +10,8 @@ use borrow.Author.Tests.{lt-ltb, le-ltb}
 use Rattle.slices.specs.declared.Part.the-variants.{Out}
 use Rattle.slices.specs.declared.Refusal.{Refusal}
 use Rattle.slices.specs.declared.Written.{Written}
-use Rattle.slices.specs.Refusals.{sound, fault, faultOf, _then_, when, Result, given, refused}
-use Rattle.slices.proofs.Refusals.{when-fails, when-passes, never-given, given-was}
+use Rattle.slices.specs.Refusals.{sound, fault, faultOf, _then_, when, Result, given, refused, faultIn}
+use Rattle.slices.proofs.Refusals.{when-fails, when-passes, given-was, mapped-given, mapped-refused}
 use Rattle.slices.specs.Filling.{written, Fills}
 use Rattle.slices.proofs.Tables.{length-tab, getD-tab, getD-first}
 use Rattle.fdfa.specs.Buchi.{SameDba, fromBuchi}
@@ -19,7 +19,7 @@ use Rattle.packed.specs.Layout.{pack}
 use Rattle.numbers.proofs.Stores.{stored-written, stored-length}
 use Rattle.buchi_import.specs.declared.Drawn.{Drawn}
 use Rattle.buchi_import.specs.declared.Drawn.the-variants as drawn
-use Rattle.buchi_import.specs.Reading.{Numbers, moveCount, lettersIn, statesIn, numbersBelow, again, numbersOf, isIn, automatonOf, bytesIn, faultIn, packFault}
+use Rattle.buchi_import.specs.Reading.{Numbers, moveCount, lettersIn, statesIn, numbersBelow, again, numbersOf, isIn, automatonOf, bytesIn, packFault}
 use Rattle.buchi_import.specs.Steps.{Sizes, sizesOf, drawnSays, targetsIn, TextRead, automatonIn, Stocked}
 use Rattle.buchi_import.proofs.Numbers.{Was, numbers-was}
 use Rattle.buchi_import.proofs.Stages.{wider}
@@ -27,13 +27,14 @@ use Rattle.buchi_import.proofs.Automata.{formed, few-letters, some-lett
 use Rattle.buchi_import.proofs.Sheets.{few-moves, sheet-long, same-pack}
 
 -- what was read, from what is said of it
+abbrev sizes : Numbers → Sizes
+sizes w = record { letters = lettersIn (w .moves); states = statesIn (w .moves) }
+
 pub lost : (x : Result Numbers) {r : Refusal} → sizesOf x ≡ refused r → x ≡ refused r
-lost (given w) e = absurd (never-given (sym e))
-lost (refused s) e = cc
+lost x e = mapped-refused sizes x e
 
 pub sized : (x : Result Numbers) {s n : ℕ} → sizesOf x ≡ given (record { letters = s; states = n }) → (w : Numbers) × (x ≡ given w) × (lettersIn (w .moves) ≡ s) × (statesIn (w .moves) ≡ n)
-sized (given w) e = let d = given-was e in (w, refl, ap (λ (z : Sizes). z .letters) d, ap (λ (z : Sizes). z .states) d)
-sized (refused r) e = absurd (never-given e)
+sized x e = let g = mapped-given sizes x e in (g .0, g .1, ap (λ (z : Sizes). z .letters) (g .2), ap (λ (z : Sizes). z .states) (g .2))
 
 noted-is : (b : Bool) → eqb (cond b 1 0) 1 ≡ b
 noted-is true = refl

@@ -1,18 +1,18 @@
 -- Reading succeeds exactly on the texts of drawable automata, each text being of one, and fills the packed sheet of that very automaton's
 -- family; in terms of what is refused. Assumes nothing.
-use mathlib.Core.Path.{_≡_, refl, ap, sym, subst, _∙_}
+use mathlib.Core.Path.{_≡_, ap, sym, subst, _∙_}
 use mathlib.Core.List.{List}
 use Prim.Native.Nat.{ℕ}
 use lib.Dec.{ltb}
 use lib.ListN.{length}
 use Rattle.slices.specs.declared.Part.the-variants.{Out}
-use Rattle.slices.specs.Refusals.{sound, when, Result, given, refused}
-use Rattle.slices.proofs.Refusals.{passed, faulty, then-left, given-was}
+use Rattle.slices.specs.Refusals.{sound, when, refused, faultIn}
+use Rattle.slices.proofs.Refusals.{passed, then-left, given-was, sound-given}
 use Rattle.fdfa.specs.Buchi.{Dba, SameDba, fromBuchi}
 use Rattle.fdfa.proofs.BuchiPairs.{same-back, same-then}
 use Rattle.packed.specs.Layout.{pack}
 use Rattle.buchi_import.specs.Text.{buchiText, Drawable}
-use Rattle.buchi_import.specs.Reading.{Numbers, numbersOf, automatonOf, bytesIn, faultIn, bytesOf, readFault}
+use Rattle.buchi_import.specs.Reading.{Numbers, numbersOf, automatonOf, bytesIn, bytesOf, readFault}
 use Rattle.buchi_import.proofs.Sheets.{same-pack}
 use Rattle.buchi_import.proofs.Texts.{read-drawable, read-text, text-read}
 
@@ -33,11 +33,9 @@ module _ (D : Dba) (d : Drawable D) where
 -- a text that is not refused is that of a drawable automaton, and the bytes are its family's
 pub sound-text : (t : List ℕ) (room : ℕ) → readFault t room ≡ sound → (D : Dba) × Drawable D × (buchiText D ≡ t) × (bytesOf t ≡ pack (fromBuchi D))
 unfolding readFault bytesOf
-sound-text t room e = by (numbersOf t) refl (then-left (faultIn (numbersOf t)) _ e)
-  where
-    by : (x : Result Numbers) → numbersOf t ≡ x → faultIn x ≡ sound → (D : Dba) × Drawable D × (buchiText D ≡ t) × (bytesIn (numbersOf t) ≡ pack (fromBuchi D))
-    by (refused r) k f = absurd (faulty f)
-    by (given w) k f = (automatonOf w, read-drawable t w k, read-text t w k, ap bytesIn k)
+sound-text t room e =
+    let w = sound-given (numbersOf t) (then-left (faultIn (numbersOf t)) _ e) in
+    (automatonOf (w .0), read-drawable t (w .0) (w .1), read-text t (w .0) (w .1), ap bytesIn (w .1))
 
 -- a text is that of one automaton
 pub text-once : (D E : Dba) → Drawable D → Drawable E → buchiText D ≡ buchiText E → SameDba D E

@@ -102,7 +102,7 @@ module _ (limit : ℕ) (t : List ℕ) where
           let b = moves-was (f .next) g (omega (arith, a .next, a .here .within)) e in
           let z = moved-was limit t (g .values) (g .next) w k in
           let c = accepting-was (g .next) (z .found) (omega (arith, b .next, b .here .within)) (z .says) in
-          subst (Was limit t) (sym (z .numbers)) (joined f g (z .found) _ _ a b (moved-whole limit t (g .values) (g .next) w k) c (z .end) (z .some))
+          subst (Was limit t) (sym (z .answer)) (joined f g (z .found) _ _ a b (moved-whole limit t (g .values) (g .next) w k) c (z .end) (z .some))
 
       begun : (z : Result Found) → reading First t (literal startLine) 0 ≡ z → started limit t z ≡ given w → Was limit t w
       begun (refused r) e k = absurd (never-given k)

@@ -10,7 +10,7 @@ use borrow.Author.Tests.{eqb-true, eqb-false, eq-eqb, ne-eqb}
 use Rattle.slices.specs.declared.Part.the-variants.{First}
 use Rattle.slices.specs.declared.Refusal.{Refusal}
 use Rattle.slices.specs.Refusals.{Result, given, refused}
-use Rattle.slices.proofs.Refusals.{never-given, given-was}
+use Rattle.slices.proofs.Refusals.{never-given, mapped-given, mapped-refused}
 use Rattle.slices.proofs.Tests.{and-left, and-right, both, not-of, of-not}
 use Rattle.numbers.specs.Storing.{Stored}
 use Rattle.format.specs.declared.Step.{Step}
@@ -18,17 +18,17 @@ use Rattle.format.specs.declared.Step.the-variants as step
 use Rattle.format.specs.declared.Lines.{Lines}
 use Rattle.format.specs.declared.Lines.the-variants as lines
 use Rattle.format.specs.Format.{Found, reading, literal}
-use Rattle.format.specs.Lines.{repeated, closing, linesSay}
+use Rattle.format.specs.Lines.{repeated, linesSay}
 use Rattle.format.specs.Steps.{placed, stepSays}
 use Rattle.format.proofs.Inverse.{reading-was}
 use Rattle.format.proofs.Steps.{placed-refused, placed-given}
-use Rattle.format.proofs.Lined.{lines-refused, lines-counted, closing-was}
+use Rattle.format.proofs.Lined.{lines-refused, lines-counted, Closed, closing-was}
 use Rattle.buchi_import.specs.declared.Moves.{Moves}
 use Rattle.buchi_import.specs.declared.Moves.the-variants as moves
 use Rattle.buchi_import.specs.declared.Drawn.{Drawn}
 use Rattle.buchi_import.specs.Text.{startLine}
-use Rattle.buchi_import.specs.Reading.{Numbers, transitions, acceptingStates, moveCount, lettersIn, joined, ended, whole, moved, started, numbersBelow}
-use Rattle.buchi_import.specs.Steps.{Extent, extentOf, movesSay, sizesOf, drawnSays, targetsIn, Noted, MovesRead, AcceptingRead, RestRead, TextRead}
+use Rattle.buchi_import.specs.Reading.{Numbers, transitions, acceptingStates, moveCount, lettersIn, ended, whole, moved, started, numbersBelow}
+use Rattle.buchi_import.specs.Steps.{Extent, movesSay, sizesOf, drawnSays, targetsIn, Noted, MovesRead, AcceptingRead, RestRead, TextRead}
 
 -- as many transitions for each state, and some
 whole-was : (vs : List ℕ) → whole vs ≡ true → (moveCount vs ≡ 0 → ⊥) × (moveCount vs % lettersIn vs ≡ 0)
@@ -52,21 +52,8 @@ module _ (t ms vs : List ℕ) (at : ℕ) where
   ended-all h e = rw (eq-eqb at (length t) h, ne-eqb (length vs) 0 e)
 
 -- What was read where the accepting states are x.
-pub record Ended (t ms : List ℕ) (x : Result Found) (w : Numbers) : Type 0 where
-  pub found : Found
-  pub says : x ≡ given found
-  pub numbers : w ≡ record { moves = ms; finals = found .values }
-  pub end : found .next ≡ length t
-  pub some : length (found .values) ≡ 0 → ⊥
-
-ended-was : (t ms : List ℕ) (x : Result Found) (w : Numbers) → ended t ms x ≡ given w → Ended t ms x w
-ended-was t ms x w e = by (closing First t 13 x) refl e
-  where
-    by : (y : Result (List ℕ)) → closing First t 13 x ≡ y → joined ms y ≡ given w → Ended t ms x w
-    by (refused r) d k = absurd (never-given k)
-    by (given v) d k =
-        let c = closing-was First t 13 x d in
-        record { found = c .found; says = c .says; numbers = sym (given-was k) ∙ ap (λ (z : List ℕ). record { moves = ms; finals = z }) (sym (c .values)); end = c .end; some = c .some }
+abbrev pub Ended : List ℕ → List ℕ → Result Found → Numbers → Type 0
+Ended t ms x w = Closed t (λ (fs : List ℕ). record { moves = ms; finals = fs }) x w
 
 -- after the transitions
 module _ (limit : ℕ) (t ms : List ℕ) (at : ℕ) where
@@ -90,7 +77,7 @@ module _ (limit : ℕ) (t ms : List ℕ) (at : ℕ) where
   moved-was w e = by (whole ms) refl
     where
       by : (b : Bool) → whole ms ≡ b → Ended t ms (repeated First t 91 (acceptingStates limit) at) w
-      by true d = ended-was t ms _ w (sym (by-whole true d) ∙ e)
+      by true d = closing-was First t 13 (λ (fs : List ℕ). record { moves = ms; finals = fs }) _ (sym (by-whole true d) ∙ e)
       by false d = absurd (never-given (sym (by-whole false d) ∙ e))
 
   pub moved-whole : (w : Numbers) → moved limit t (given (record { values = ms; next = at })) ≡ given w → (moveCount ms ≡ 0 → ⊥) × (moveCount ms % lettersIn ms ≡ 0)
@@ -125,7 +112,7 @@ module _ (limit : ℕ) (t : List ℕ) (at m c : ℕ) {old new : List ℕ} {r : D
       same = d .same;
       cells = λ ms u h k q.
           let g = moved-was limit t ms at u q in
-          subst (λ (v : Numbers). Noted old (v .finals) new) (sym (g .numbers)) (d .cells (g .found) (g .says));
+          subst (λ (v : Numbers). Noted old (v .finals) new) (sym (g .answer)) (d .cells (g .found) (g .says));
     }
       where
         w : (w : Found) × (repeated First t 91 (acceptingStates limit) at ≡ given w) × (length (w .values) ≡ n) × (w .next ≡ e)
@@ -140,7 +127,7 @@ module _ (limit : ℕ) (t : List ℕ) {ts ts′ ms ms′ : List ℕ} {r : Drawn}
       → Stored ts 0 (targetsIn (w .values)) ts′ (moveCount (w .values)) → RestRead limit t at m c ms ms′ r → TextRead (numbersBelow limit t) ts ts′ ms ms′ r
   text-read {at} w e n h k s d = record {
     says = d .says (w .values) h k ∙ ap sizesOf (sym all);
-    targets = λ u q. let g = moved-was limit t (w .values) at u (sym all ∙ q) in subst (λ (v : Numbers). Stored ts 0 (targetsIn (v .moves)) ts′ (moveCount (v .moves))) (sym (g .numbers)) s;
+    targets = λ u q. let g = moved-was limit t (w .values) at u (sym all ∙ q) in subst (λ (v : Numbers). Stored ts 0 (targetsIn (v .moves)) ts′ (moveCount (v .moves))) (sym (g .answer)) s;
     finals = λ u q. d .cells (w .values) u h k (sym all ∙ q);
   }
     where
@@ -163,20 +150,15 @@ module _ (limit : ℕ) (t : List ℕ) {x : Step} (d : stepSays x ≡ placed (rea
       )
 
 -- the transitions, from what is said of them
-moves-lost : (x : Result Found) {r : Refusal} → extentOf x ≡ refused r → x ≡ refused r
-moves-lost (given w) e = absurd (never-given (sym e))
-moves-lost (refused s) e = cc
-
-moves-counted : (x : Result Found) {m c p : ℕ} → extentOf x ≡ given (record { count = m; of-start = c; next = p }) → (w : Found) × (x ≡ given w) × (moveCount (w .values) ≡ m) × (lettersIn (w .values) ≡ c) × (w .next ≡ p)
-moves-counted (given w) e =
-    let d = given-was e in
-    (w, refl, ap (λ (z : Extent). z .count) d, ap (λ (z : Extent). z .of-start) d, ap (λ (z : Extent). z .next) d)
-moves-counted (refused r) e = absurd (never-given e)
+abbrev counts : Found → Extent
+counts w = record { count = moveCount (w .values); of-start = lettersIn (w .values); next = w .next }
 
 module _ (limit : ℕ) (t : List ℕ) (at : ℕ) {old new : List ℕ} {x : Moves} (d : MovesRead (repeated First t 115 (transitions limit) at) old new x) where
   pub moves-refused : {r : Refusal} → x ≡ moves.Refused r → moved limit t (repeated First t 115 (transitions limit) at) ≡ refused r
-  moves-refused e = ap (moved limit t) (moves-lost (repeated First t 115 (transitions limit) at) (sym (d .says) ∙ ap movesSay e))
+  moves-refused e = ap (moved limit t) (mapped-refused counts (repeated First t 115 (transitions limit) at) (sym (d .says) ∙ ap movesSay e))
 
   pub moves-read : {m c p : ℕ} → x ≡ moves.Counted m c p
       → (w : Found) × (repeated First t 115 (transitions limit) at ≡ given w) × (moveCount (w .values) ≡ m) × (lettersIn (w .values) ≡ c) × (w .next ≡ p)
-  moves-read e = moves-counted (repeated First t 115 (transitions limit) at) (sym (d .says) ∙ ap movesSay e)
+  moves-read e =
+      let g = mapped-given counts (repeated First t 115 (transitions limit) at) (sym (d .says) ∙ ap movesSay e) in
+      (g .0, g .1, ap (λ (z : Extent). z .count) (g .2), ap (λ (z : Extent). z .of-start) (g .2), ap (λ (z : Extent). z .next) (g .2))

@@ -8,15 +8,15 @@ use Rattle.slices.specs.declared.Part.the-variants.{First}
 use Rattle.slices.specs.declared.Refusal.{Refusal}
 use Rattle.slices.specs.Refusals.{Result, given, refused}
 use Rattle.format.specs.Format.{Found}
-use Rattle.format.proofs.Narrower.{Staged, takes, tested, second-never, both-found, first-only, staged-then, narrower-literal, staged-closing, staged-repeated}
+use Rattle.format.proofs.Narrower.{Staged, tested, second-never, both-found, first-only, staged-then, narrower-literal, staged-closing, staged-repeated}
 use Rattle.buchi_import.specs.Text.{startLine}
-use Rattle.buchi_import.specs.Reading.{Numbers, joined, ended, whole, moved, started, statesIn, numbersBelow, again, numbersOf}
+use Rattle.buchi_import.specs.Reading.{Numbers, ended, whole, moved, started, statesIn, numbersBelow, again, numbersOf}
 use Rattle.buchi_import.proofs.Limits.{eleven, transitions-narrower, states-narrower}
 
 module _ (limit : ℕ) (t : List ℕ) where
   -- where the accepting states were read
   staged-end : (ms : List ℕ) {x y : Result Found} → Staged 5 x y → Staged 5 (ended t ms x) (ended t ms y)
-  staged-end ms s = staged-then (joined ms) (joined ms) (λ r. refl) (λ r. refl) (λ v. takes _) (staged-closing eleven First t 13 (λ e. omega arith) s)
+  staged-end ms s = staged-closing eleven First t 13 (λ (fs : List ℕ). record { moves = ms; finals = fs }) (λ e. omega arith) s
 
   staged-moves : (w : Found) → Staged 5 (moved limit t (given w)) (moved 1000 t (given w))
   staged-moves w = tested (whole (w .values)) _ eleven (staged-end (w .values) (staged-repeated First t 91 (w .next) (states-narrower limit)))

@@ -7,7 +7,7 @@ use Prim.Native.Nat.{ℕ, _+_, _*_, _-_, _/_, _%_}
 use lib.Dec.{eqb, ltb}
 use lib.ListN.{length, getD}
 use Rattle.slices.specs.declared.Part.the-variants.{First, Out}
-use Rattle.slices.specs.Refusals.{Fault, sound, fault, _then_, when, Result, given, refused}
+use Rattle.slices.specs.Refusals.{Fault, _then_, when, Result, given, refused, faultIn}
 use Rattle.fdfa.specs.Buchi.{Dba, fromBuchi}
 use Rattle.fdfa.specs.Inclusion.{countBelow}
 use Rattle.packed.specs.Layout.{pack}
@@ -75,12 +75,8 @@ abbrev pub statesIn : List ℕ → ℕ
 statesIn moves = moveCount moves / lettersIn moves
 
 -- The accepting states are the last lines; a text that has none is 13.
-abbrev pub joined : List ℕ → Result (List ℕ) → Result Numbers
-joined moves (given finals) = given (record { moves = moves; finals = finals })
-joined moves (refused r) = refused r
-
 abbrev pub ended : List ℕ → List ℕ → Result Found → Result Numbers
-ended t moves x = joined moves (closing First t 13 x)
+ended t moves x = closing First t 13 (λ finals. record { moves = moves; finals = finals }) x
 
 -- The transitions are as many for each state, and there are some.
 abbrev pub whole : List ℕ → Bool
@@ -127,10 +123,6 @@ automatonOf w = record {
 abbrev pub bytesIn : Result Numbers → List ℕ
 bytesIn (given w) = pack (fromBuchi (automatonOf w))
 bytesIn (refused r) = []
-
-abbrev pub faultIn : Result Numbers → Fault
-faultIn (given w) = sound
-faultIn (refused r) = fault r
 
 -- The text's fault, then 21 where the out slice is too short.
 abbrev pub packFault : Result Numbers → ℕ → Fault

@@ -5,7 +5,7 @@ use mathlib.Core.List.{List, [], _∷_}
 use Prim.Native.Nat.{ℕ, _+_, _*_, _≤_, _<_}
 use lib.Dec.{eqb}
 use lib.ListN.{length, getD}
-use Rattle.slices.specs.Refusals.{Result, given, refused}
+use Rattle.slices.specs.Refusals.{Result, given, refused, mapped}
 use Rattle.slices.specs.Tables.{tab}
 use Rattle.fdfa.specs.Buchi.{Dba}
 use Rattle.numbers.specs.Storing.{Stored}
@@ -32,8 +32,7 @@ pub record Extent : Type 0 where
   pub next : ℕ
 
 abbrev pub extentOf : Result Found → Result Extent
-extentOf (given w) = given (record { count = moveCount (w .values); of-start = lettersIn (w .values); next = w .next })
-extentOf (refused r) = refused r
+extentOf x = mapped (λ (w : Found). record { count = moveCount (w .values); of-start = lettersIn (w .values); next = w .next }) x
 
 abbrev pub movesSay : Moves → Result Extent
 movesSay (moves.Counted m c next) = given (record { count = m; of-start = c; next = next })
@@ -44,8 +43,7 @@ pub record Sizes : Type 0 where
   pub states : ℕ
 
 abbrev pub sizesOf : Result Numbers → Result Sizes
-sizesOf (given w) = given (record { letters = lettersIn (w .moves); states = statesIn (w .moves) })
-sizesOf (refused r) = refused r
+sizesOf x = mapped (λ (w : Numbers). record { letters = lettersIn (w .moves); states = statesIn (w .moves) }) x
 
 abbrev pub drawnSays : Drawn → Result Sizes
 drawnSays (drawn.Sized s n) = given (record { letters = s; states = n })

@@ -10,7 +10,7 @@ use borrow.Author.Tests.{eqb-true, eqb-false}
 use Rattle.slices.specs.declared.Part.{Part}
 use Rattle.slices.specs.declared.Refusal.{Refusal}
 use Rattle.slices.specs.Refusals.{Result, given, refused}
-use Rattle.slices.proofs.Refusals.{never-given, given-was}
+use Rattle.slices.proofs.Refusals.{never-given, given-was, mapped-given, mapped-refused}
 use Rattle.numbers.specs.Numerals.{numberAt}
 use Rattle.numbers.specs.Storing.{Stored}
 use Rattle.numbers.proofs.Stores.{stored-none, stored-then, stored-length}
@@ -124,30 +124,29 @@ module _ {part : Part} {t word : List ℕ} {c : Column} {at : ℕ} {old new : Li
       all = going-refused (s .going) g (each-next part t (λ j. line) at i (s .going .says) e)
 
 -- what the lines were, from what is said of them
+abbrev counts : Found → Extent
+counts w = record { count = length (w .values); next = w .next }
+
 pub lines-refused : (x : Result Found) {r : Refusal} → extent x ≡ refused r → x ≡ refused r
-lines-refused (given w) e = absurd (never-given (sym e))
-lines-refused (refused s) e = cc
+lines-refused x e = mapped-refused counts x e
 
 pub lines-counted : (x : Result Found) {n p : ℕ} → extent x ≡ given (record { count = n; next = p }) → (w : Found) × (x ≡ given w) × (length (w .values) ≡ n) × (w .next ≡ p)
-lines-counted (given w) {n} {p} e =
-    let d = given-was e in
-    (w, refl, ap (λ (z : Extent). z .count) d, ap (λ (z : Extent). z .next) d)
-lines-counted (refused r) e = absurd (never-given e)
+lines-counted x e = let g = mapped-given counts x e in (g .0, g .1, ap (λ (z : Extent). z .count) (g .2), ap (λ (z : Extent). z .next) (g .2))
 
--- What the last lines x were, where the text ends with some.
-pub record Closing (t : List ℕ) (x : Result Found) (vs : List ℕ) : Type 0 where
+-- What the last lines x were, where the text ends with some, and b is the answer that they were turned into.
+pub record Closed {B : Type 0} (t : List ℕ) (f : List ℕ → B) (x : Result Found) (b : B) : Type 0 where
   pub found : Found
   pub says : x ≡ given found
-  pub values : found .values ≡ vs
+  pub answer : b ≡ f (found .values)
   pub end : found .next ≡ length t
   pub some : length (found .values) ≡ 0 → ⊥
 
-pub closing-was : (part : Part) (t : List ℕ) (number : ℕ) (x : Result Found) {vs : List ℕ} → closing part t number x ≡ given vs → Closing t x vs
-closing-was part t number (refused r) e = absurd (never-given e)
-closing-was part t number (given w) {vs} e = by (eqb (w .next) (length t)) refl (eqb (length (w .values)) 0) refl e
+pub closing-was : {B : Type 0} (part : Part) (t : List ℕ) (number : ℕ) (f : List ℕ → B) (x : Result Found) {b : B} → closing part t number f x ≡ given b → Closed t f x b
+closing-was part t number f (refused r) e = absurd (never-given e)
+closing-was {B} part t number f (given w) {b} e = by (eqb (w .next) (length t)) refl (eqb (length (w .values)) 0) refl e
   where
-    by : (a : Bool) → eqb (w .next) (length t) ≡ a → (b : Bool) → eqb (length (w .values)) 0 ≡ b
-        → cond {A = Result (List ℕ)} a (cond b (refusedAt number part (length t)) (given (w .values))) (refusedAt 11 part (w .next)) ≡ given vs → Closing t (given w) vs
-    by false p b q k = absurd (never-given k)
-    by true p true q k = absurd (never-given k)
-    by true p false q k = record { found = w; says = refl; values = given-was k; end = eqb-true (w .next) (length t) p; some = eqb-false (length (w .values)) 0 q }
+    by : (p : Bool) → eqb (w .next) (length t) ≡ p → (q : Bool) → eqb (length (w .values)) 0 ≡ q
+        → cond {A = Result B} p (cond q (refusedAt number part (length t)) (given (f (w .values)))) (refusedAt 11 part (w .next)) ≡ given b → Closed t f (given w) b
+    by false d q g k = absurd (never-given k)
+    by true d true g k = absurd (never-given k)
+    by true d false g k = record { found = w; says = refl; answer = sym (given-was k); end = eqb-true (w .next) (length t) d; some = eqb-false (length (w .values)) 0 g }

@@ -154,10 +154,10 @@ module _ {k : ℕ} (other : 11 ≡ k → ⊥) where
   narrower-labelled word end h = narrower-seq (narrower-literal word) (λ vs. narrower-choice end h)
 
   -- the end of a text
-  pub staged-closing : (part : Part) (t : List ℕ) (number : ℕ) → (number ≡ k → ⊥) → {x y : Result Found} → Staged k x y → Staged k (closing part t number x) (closing part t number y)
-  staged-closing part t number h s = staged-then (closing part t number) (closing part t number) (λ r. refl) (λ r. refl) (λ w. tested (eqb (w .next) (length t)) _ other (by (eqb (length (w .values)) 0) w)) s
+  pub staged-closing : {B : Type 0} (part : Part) (t : List ℕ) (number : ℕ) (f : List ℕ → B) → (number ≡ k → ⊥) → {x y : Result Found} → Staged k x y → Staged k (closing part t number f x) (closing part t number f y)
+  staged-closing part t number f h s = staged-then (closing part t number f) (closing part t number f) (λ r. refl) (λ r. refl) (λ w. tested (eqb (w .next) (length t)) _ other (by (eqb (length (w .values)) 0) w)) s
     where
-      by : (b : Bool) (w : Found) → Staged k (cond b (refusedAt number part (length t)) (given (w .values))) (cond b (refusedAt number part (length t)) (given (w .values)))
+      by : (b : Bool) (w : Found) → Staged k (cond b (refusedAt number part (length t)) (given (f (w .values)))) (cond b (refusedAt number part (length t)) (given (f (w .values))))
       by true w = refuses _ h
       by false w = takes _
 

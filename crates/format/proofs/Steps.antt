@@ -1,5 +1,5 @@
 -- A byte and a cell, as the code reads them. Assumes nothing.
-use mathlib.Core.Path.{_≡_, refl, ap, sym, _∙_}
+use mathlib.Core.Path.{_≡_, refl, ap, _∙_}
 use mathlib.Core.Bool.{Bool, true, false, cond}
 use mathlib.Core.List.{List, [], _∷_}
 use Prim.Native.Nat.{ℕ, _+_, _≤_, _<_}
@@ -8,7 +8,7 @@ use borrow.Author.Tests.{lt-ltb, le-ltb, eq-eqb, ne-eqb}
 use Rattle.slices.specs.declared.Part.{Part}
 use Rattle.slices.specs.declared.Refusal.{Refusal}
 use Rattle.slices.specs.Refusals.{Result, given, refused}
-use Rattle.slices.proofs.Refusals.{never-given, given-was}
+use Rattle.slices.proofs.Refusals.{never-given, given-was, mapped-given, mapped-refused}
 use Rattle.slices.specs.Scans.{outside}
 use Rattle.numbers.specs.declared.Number.{Number}
 use Rattle.numbers.specs.declared.Number.the-variants.{Good, Refused}
@@ -19,13 +19,11 @@ use Rattle.format.specs.Rows.{choice, cell}
 use Rattle.format.specs.Steps.{placed, peeked}
 
 pub placed-refused : (x : Result Found) {r : Refusal} → placed x ≡ refused r → x ≡ refused r
-placed-refused (given w) e = absurd (never-given (sym e))
-placed-refused (refused s) e = cc
+placed-refused x e = mapped-refused (λ (w : Found). w .next) x e
 
 -- a place was given, so something was found
 pub placed-given : (x : Result Found) {e : ℕ} → placed x ≡ given e → (g : Found) × (x ≡ given g) × (g .next ≡ e)
-placed-given (given g) d = (g, refl, given-was d)
-placed-given (refused r) d = absurd (never-given d)
+placed-given x d = mapped-given (λ (w : Found). w .next) x d
 
 module _ (part : Part) (t : List ℕ) (c at : ℕ) where
   pub byte-past : length t ≤ at → reading part t (byte c done) at ≡ refusedAt 11 part at

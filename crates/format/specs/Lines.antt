@@ -7,7 +7,7 @@ use lib.Dec.{eqb}
 use lib.ListN.{length, getD}
 use Rattle.slices.specs.declared.Part.{Part}
 use Rattle.slices.specs.Extremes.{least}
-use Rattle.slices.specs.Refusals.{Result, given, refused}
+use Rattle.slices.specs.Refusals.{Result, given, refused, mapped}
 use Rattle.numbers.specs.Storing.{Stored}
 use Rattle.format.specs.declared.Column.{Column}
 use Rattle.format.specs.declared.Lines.{Lines}
@@ -39,13 +39,13 @@ lines word c m = each m (λ i. labelled word (λ v. c) 10)
 abbrev pub linesAt : Part → List ℕ → List ℕ → Column → ℕ → Result Found
 linesAt part t word c at = repeated part t (getD word 0 0) (lines word c) at
 
--- After its last lines a text ends: a byte there is 11. A text that has none of these lines is refused, at its length, with a number of
--- its own.
-abbrev pub closing : Part → List ℕ → ℕ → Result Found → Result (List ℕ)
-closing part t number (refused r) = refused r
-closing part t number (given w) =
+-- After its last lines, whose numbers are turned into an answer, a text ends: a byte there is 11. A text that has none of these lines is
+-- refused, at its length, with a number of its own.
+abbrev pub closing : {A : Type 0} → Part → List ℕ → ℕ → (List ℕ → A) → Result Found → Result A
+closing part t number f (refused r) = refused r
+closing part t number f (given w) =
     cond (eqb (w .next) (length t))
-    (cond (eqb (length (w .values)) 0) (refusedAt number part (length t)) (given (w .values)))
+    (cond (eqb (length (w .values)) 0) (refusedAt number part (length t)) (given (f (w .values))))
     (refusedAt 11 part (w .next))
 
 -- How many numbers, and the place after them.
@@ -54,8 +54,7 @@ pub record Extent : Type 0 where
   pub next : ℕ
 
 abbrev pub extent : Result Found → Result Extent
-extent (given w) = given (record { count = length (w .values); next = w .next })
-extent (refused r) = refused r
+extent x = mapped (λ (w : Found). record { count = length (w .values); next = w .next }) x
 
 abbrev pub linesSay : Lines → Result Extent
 linesSay (Counted n next) = given (record { count = n; next = next })

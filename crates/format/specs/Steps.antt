@@ -3,7 +3,7 @@ use mathlib.Core.Path.{_≡_}
 use mathlib.Core.List.{List, [], _∷_}
 use Prim.Native.Nat.{ℕ}
 use lib.ListN.{length}
-use Rattle.slices.specs.Refusals.{Result, given, refused}
+use Rattle.slices.specs.Refusals.{Result, given, refused, mapped}
 use Rattle.slices.specs.Filling.{written}
 use Rattle.numbers.specs.declared.Number.{Number}
 use Rattle.numbers.specs.declared.Number.the-variants as number
@@ -15,8 +15,7 @@ use Rattle.format.specs.Format.{Found}
 
 -- The place after what was read.
 abbrev pub placed : Result Found → Result ℕ
-placed (given w) = given (w .next)
-placed (refused r) = refused r
+placed x = mapped (λ (w : Found). w .next) x
 
 -- The answers of the code, by cases.
 abbrev pub stepSays : Step → Result ℕ

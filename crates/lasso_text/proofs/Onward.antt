@@ -1,5 +1,5 @@
 -- Reading as the code goes: step by step, and what was read where nothing is refused. Assumes nothing.
-use mathlib.Core.Path.{_≡_, refl, ap, sym, subst, _∙_}
+use mathlib.Core.Path.{_≡_, ap, sym, subst, _∙_}
 use mathlib.Core.List.{List}
 use Prim.Native.Nat.{ℕ, _≤_}
 use native.Mathlib.Omega.{arith}
@@ -8,23 +8,23 @@ use borrow.Author.Tests.{eq-eqb, ne-eqb}
 use Rattle.slices.specs.declared.Part.{Part}
 use Rattle.slices.specs.declared.Refusal.{Refusal}
 use Rattle.slices.specs.Refusals.{Result, given, refused}
-use Rattle.slices.proofs.Refusals.{never-given, given-was}
+use Rattle.slices.proofs.Refusals.{never-given}
 use Rattle.numbers.specs.Storing.{Stored}
 use Rattle.format.specs.declared.Step.{Step}
 use Rattle.format.specs.declared.Step.the-variants as step
 use Rattle.format.specs.declared.Lines.{Lines}
 use Rattle.format.specs.declared.Lines.the-variants as lines
 use Rattle.format.specs.Format.{Found, reading, literal}
-use Rattle.format.specs.Lines.{linesAt, closing, linesSay, LinesRead}
+use Rattle.format.specs.Lines.{linesAt, linesSay, LinesRead}
 use Rattle.format.specs.Steps.{placed, stepSays}
 use Rattle.format.proofs.Inverse.{reading-was}
 use Rattle.format.proofs.LinesInverse.{lines-was}
 use Rattle.format.proofs.Steps.{placed-refused, placed-given}
-use Rattle.format.proofs.Lined.{lines-refused, lines-counted, closing-was}
+use Rattle.format.proofs.Lined.{lines-refused, lines-counted, Closed, closing-was}
 use Rattle.lasso_text.specs.declared.Lengths.{Lengths}
 use Rattle.lasso_text.specs.declared.Lengths.the-variants.{Refused}
 use Rattle.lasso_text.specs.Text.{title, prefixName}
-use Rattle.lasso_text.specs.Reading.{Words, letter, joined, ended, opened, named, wordsOf, lengthsSay}
+use Rattle.lasso_text.specs.Reading.{Words, letter, ended, opened, named, wordsOf, lengthsSay}
 use Rattle.lasso_text.specs.Steps.{measured, WordsRead, PeriodRead}
 
 -- where the text ends, and whether it has lines of the period
@@ -39,21 +39,8 @@ module _ (part : Part) (t u v : List ℕ) (at : ℕ) where
   ended-all h e = rw (eq-eqb at (length t) h, ne-eqb (length v) 0 e)
 
 -- What was read where the lines of the period are x.
-pub record Ended (t u : List ℕ) (x : Result Found) (w : Words) : Type 0 where
-  pub found : Found
-  pub says : x ≡ given found
-  pub words : w ≡ record { prefix = u; period = found .values }
-  pub end : found .next ≡ length t
-  pub some : length (found .values) ≡ 0 → ⊥
-
-pub ended-was : (part : Part) (t u : List ℕ) (x : Result Found) {w : Words} → ended part t u x ≡ given w → Ended t u x w
-ended-was part t u x {w} e = by (closing part t 8 x) refl e
-  where
-    by : (y : Result (List ℕ)) → closing part t 8 x ≡ y → joined u y ≡ given w → Ended t u x w
-    by (refused r) d k = absurd (never-given k)
-    by (given v) d k =
-        let c = closing-was part t 8 x d in
-        record { found = c .found; says = c .says; words = sym (given-was k) ∙ ap (λ (z : List ℕ). record { prefix = u; period = z }) (sym (c .values)); end = c .end; some = c .some }
+pub ended-was : (part : Part) (t u : List ℕ) (x : Result Found) {w : Words} → ended part t u x ≡ given w → Closed t (λ v. record { prefix = u; period = v }) x w
+ended-was part t u x e = closing-was part t 8 (λ v. record { prefix = u; period = v }) x e
 
 -- the line of names
 module _ (s : ℕ) (part : Part) (t : List ℕ) {x : Step} (d : stepSays x ≡ placed (reading part t (literal title) 0)) where
@@ -120,8 +107,8 @@ words-read part t {x} {y} {z} w {o} {p} {o′} {p′} e d a n b = record {
   same-period = b .same;
   opening = λ k q.
       let f = ended-was part t (w .values) z (sym e ∙ q) in
-      subst (λ (c : Words). Stored o 0 (c .prefix) o′ (length (c .prefix))) (sym (f .words)) (a .cells w d);
+      subst (λ (c : Words). Stored o 0 (c .prefix) o′ (length (c .prefix))) (sym (f .answer)) (a .cells w d);
   period = λ k q.
       let f = ended-was part t (w .values) z (sym e ∙ q) in
-      subst (λ (c : Words). Stored p 0 (c .period) p′ (length (c .period))) (sym (f .words)) (b .cells (f .found) (f .says));
+      subst (λ (c : Words). Stored p 0 (c .period) p′ (length (c .period))) (sym (f .answer)) (b .cells (f .found) (f .says));
 }

@@ -1,5 +1,5 @@
 -- What was judged on empty slices, then the room, then what is filled. Assumes nothing.
-use mathlib.Core.Path.{_≡_, refl, ap, sym, subst, _∙_}
+use mathlib.Core.Path.{_≡_, ap, sym, subst, _∙_}
 use mathlib.Core.List.{List}
 use Prim.Native.Nat.{ℕ, _≤_, _<_}
 use native.Mathlib.Omega.{arith}
@@ -10,7 +10,7 @@ use Rattle.slices.specs.declared.Part.the-variants.{Opening, Loop}
 use Rattle.slices.specs.declared.Refusal.{Refusal}
 use Rattle.slices.specs.Refusals.{Fault, sound, fault, when, Result, given, refused, unless}
 use Rattle.slices.specs.Filling.{filled}
-use Rattle.slices.proofs.Refusals.{when-fails, when-passes, passed, failed, never-given, given-was, was-given, was-refused}
+use Rattle.slices.proofs.Refusals.{when-fails, when-passes, passed, failed, was-given, was-refused, mapped-given, mapped-refused}
 use Rattle.slices.proofs.Filling.{filled-front}
 use Rattle.numbers.proofs.Stores.{stored-written}
 use Rattle.lasso_text.specs.declared.Lengths.{Lengths}
@@ -19,14 +19,10 @@ use Rattle.lasso_text.specs.Reading.{Words, wordsIn, roomFault, readFaul
 use Rattle.lasso_text.specs.Steps.{measured, WordsRead}
 
 pub unmeasured : (x : Result Words) {r : Refusal} → measured x ≡ refused r → x ≡ refused r
-unmeasured (given w) e = absurd (never-given (sym e))
-unmeasured (refused s) e = cc
+unmeasured x e = mapped-refused sizesOf x e
 
 pub was-measured : (x : Result Words) {m n : ℕ} → measured x ≡ given (record { prefix = m; period = n }) → (w : Words) × (x ≡ given w) × (length (w .prefix) ≡ m) × (length (w .period) ≡ n)
-was-measured (given w) {m} {n} e =
-    let d = given-was e in
-    (w, refl, ap (λ (z : Sizes). z .prefix) d, ap (λ (z : Sizes). z .period) d)
-was-measured (refused r) e = absurd (never-given e)
+was-measured x e = let g = mapped-given sizesOf x e in (g .0, g .1, ap (λ (z : Sizes). z .prefix) (g .2), ap (λ (z : Sizes). z .period) (g .2))
 
 -- the tests, from what the code knows where it meets them
 pub text-refused : {x : Result Words} {r : Refusal} (o p : ℕ) → x ≡ refused r → readFault x o p ≡ fault r

@@ -157,7 +157,7 @@ module _ (s : ℕ) (part : Part) (t : List ℕ) (w : Words) where
           let b = lines-was part t prefixName (letter s) (f .next) g (within f a) e in
           let z = ended-was part t (g .values) (linesAt part t periodName (letter s) (g .next)) k in
           let c = lines-was part t periodName (letter s) (g .next) (z .found) (omega (arith, b .next, b .here .within)) (z .says) in
-          subst Was (sym (z .words)) (joined f g (z .found) a b c (z .end) (z .some))
+          subst Was (sym (z .answer)) (joined f g (z .found) a b c (z .end) (z .some))
 
       opens : (f : Found) → Read t (literal title) 0 f → (z : Result Found) → linesAt part t prefixName (letter s) (f .next) ≡ z → opened s part t z ≡ given w → Was w
       opens f a (refused r) e k = absurd (never-given k)

@@ -6,7 +6,7 @@ use lib.Dec.{ltb}
 use lib.ListN.{length}
 use Rattle.slices.specs.declared.Part.{Part}
 use Rattle.slices.specs.declared.Part.the-variants.{Opening, Loop}
-use Rattle.slices.specs.Refusals.{Fault, sound, fault, _then_, when, Result, given, refused, unless}
+use Rattle.slices.specs.Refusals.{Fault, _then_, when, Result, given, refused, unless, faultIn}
 use Rattle.slices.specs.Filling.{filled}
 use Rattle.format.specs.declared.Column.{Column}
 use Rattle.format.specs.Format.{Found, reading, literal}
@@ -26,12 +26,8 @@ abbrev pub letter : ℕ → Column
 letter s = below s 9
 
 -- The lines of the period are the last; a text that has none is 8.
-abbrev pub joined : List ℕ → Result (List ℕ) → Result Words
-joined u (given v) = given (record { prefix = u; period = v })
-joined u (refused r) = refused r
-
 abbrev pub ended : Part → List ℕ → List ℕ → Result Found → Result Words
-ended part t u x = joined u (closing part t 8 x)
+ended part t u x = closing part t 8 (λ v. record { prefix = u; period = v }) x
 
 -- After the lines of the prefix, those of the period.
 abbrev pub opened : ℕ → Part → List ℕ → Result Found → Result Words
@@ -53,8 +49,7 @@ wordsIn (refused r) = record { prefix = []; period = [] }
 
 -- What the text alone is refused for.
 abbrev pub textFault : Result Words → Fault
-textFault (given w) = sound
-textFault (refused r) = fault r
+textFault x = faultIn x
 
 -- 21 where the opening slice is too short, else where the period's is.
 abbrev pub roomFault : Words → ℕ → ℕ → Fault

@@ -3,7 +3,7 @@ use mathlib.Core.Path.{_≡_}
 use mathlib.Core.List.{List}
 use Prim.Native.Nat.{ℕ}
 use lib.ListN.{length}
-use Rattle.slices.specs.Refusals.{Result, given, refused}
+use Rattle.slices.specs.Refusals.{Result, given, mapped}
 use Rattle.slices.specs.declared.Part.{Part}
 use Rattle.numbers.specs.Storing.{Stored}
 use Rattle.format.specs.Format.{Found}
@@ -11,8 +11,7 @@ use Rattle.lasso_text.specs.declared.Lengths.{Lengths}
 use Rattle.lasso_text.specs.Reading.{Words, ended, Sizes, sizesOf, lengthsSay}
 
 abbrev pub measured : Result Words → Result Sizes
-measured (given w) = given (sizesOf w)
-measured (refused r) = refused r
+measured x = mapped sizesOf x
 
 -- The words of a text are at the start of two lent slices, each letter where there is room for it; a refusal leaves the cells open.
 pub record WordsRead (x : Result Words) (o p o′ p′ : List ℕ) (r : Lengths) : Type 0 where

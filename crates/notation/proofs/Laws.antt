@@ -9,8 +9,8 @@ use lib.ListN.{length, length-append}
 use borrow.Author.Tests.{eq-eqb, eqb-true}
 use Rattle.slices.specs.declared.Part.the-variants.{First, Out}
 use Rattle.fdfa.specs.Family.{Fdfa, Agrees}
-use Rattle.slices.specs.Refusals.{sound, when, Result, given, refused}
-use Rattle.slices.proofs.Refusals.{passed, faulty, then-left, never-given, given-was}
+use Rattle.slices.specs.Refusals.{sound, when, Result, given, refused, faultIn}
+use Rattle.slices.proofs.Refusals.{passed, then-left, never-given, given-was, sound-given}
 use Rattle.slices.specs.Tables.{tab, rows}
 use Rattle.slices.proofs.Tables.{tab-same, rows-same}
 use Rattle.packed.specs.Layout.{decode, mark, pack, Valid, Packable}
@@ -20,7 +20,7 @@ use Rattle.numbers.proofs.Standing.{At, at-append, at-left, at-right, at-self, 
 use Rattle.format.specs.Format.{Found, reading, printed}
 use Rattle.format.proofs.Inverse.{Read, reading-was, reading-is}
 use Rattle.notation.specs.Text.{leadingValues, progressValues, frontFormat, partsFormat, frontOf, partsOf, textFor, textOf}
-use Rattle.notation.specs.Reading.{Numbers, ended, onward, numbersOf, familyOf, bytesIn, faultIn, bytesOf, readFault}
+use Rattle.notation.specs.Reading.{Numbers, ended, onward, numbersOf, familyOf, bytesIn, bytesOf, readFault}
 use Rattle.notation.specs.Values.{Whole}
 use Rattle.notation.proofs.Shapes.{whole-readable}
 use Rattle.notation.proofs.Texts.{front-fits, parts-fit}
@@ -154,10 +154,6 @@ module _ (t : List ℕ) (v : Numbers) (d : numbersOf 3 t ≡ given v) where
   pub read-text : textOf (bytesOf t) ≡ t
   unfolding textOf
   read-text = ap textOf bytes-are ∙ (sym (text-same G (decode (pack G)) (decode-pack G packs)) ∙ family-text)
-
-sound-given : (x : Result Numbers) → faultIn x ≡ sound → (v : Numbers) × (x ≡ given v)
-sound-given (given v) d = (v, refl)
-sound-given (refused r) d = absurd (faulty d)
 
 pub read-is : (t : List ℕ) (room : ℕ) → readFault t room ≡ sound → Valid (bytesOf t) × (textOf (bytesOf t) ≡ t)
 unfolding readFault

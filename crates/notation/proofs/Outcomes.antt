@@ -10,14 +10,14 @@ use Rattle.slices.specs.declared.Part.the-variants.{First, Out}
 use Rattle.slices.specs.declared.Refusal.{Refusal}
 use Rattle.slices.specs.declared.Written.{Written}
 use Rattle.slices.specs.declared.Written.the-variants.{Filled, Refused}
-use Rattle.slices.specs.Refusals.{Result, given, refused, when}
+use Rattle.slices.specs.Refusals.{Result, given, refused, when, faultIn}
 use Rattle.slices.specs.Filling.{written, Fills}
 use Rattle.slices.proofs.Refusals.{when-fails, when-passes, failed}
 use Rattle.slices.proofs.Filling.{fill-refused, fill-given}
 use Rattle.packed.specs.Layout.{pack}
 use Rattle.format.specs.Format.{Found, reading}
 use Rattle.notation.specs.Text.{frontFormat}
-use Rattle.notation.specs.Reading.{Numbers, ended, onward, numbersOf, familyOf, bytesIn, faultIn, bytesOf, readFault}
+use Rattle.notation.specs.Reading.{Numbers, ended, onward, numbersOf, familyOf, bytesIn, bytesOf, readFault}
 use Rattle.notation.specs.Values.{Packs}
 
 -- after the last line feed

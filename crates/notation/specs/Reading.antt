@@ -5,7 +5,7 @@ use Prim.Native.Nat.{ℕ, _+_, _*_}
 use lib.Dec.{eqb, ltb}
 use lib.ListN.{length, getD}
 use Rattle.slices.specs.declared.Part.the-variants.{First, Out}
-use Rattle.slices.specs.Refusals.{Fault, sound, fault, _then_, when, Result, given, refused}
+use Rattle.slices.specs.Refusals.{Fault, _then_, when, Result, given, refused, faultIn}
 use Rattle.slices.specs.Tables.{sum}
 use Rattle.fdfa.specs.Family.{Fdfa}
 use Rattle.packed.specs.Layout.{pack}
@@ -50,10 +50,6 @@ familyOf front parts = record {
 abbrev pub bytesIn : Result Numbers → List ℕ
 bytesIn (given v) = pack (familyOf (v .front) (v .parts))
 bytesIn (refused r) = []
-
-abbrev pub faultIn : Result Numbers → Fault
-faultIn (given v) = sound
-faultIn (refused r) = fault r
 
 -- The text's fault, then 21 where the out slice is too short.
 abbrev pub packFault : Result Numbers → ℕ → Fault

@@ -4,7 +4,7 @@ use mathlib.Core.Bool.{Bool, true, false}
 use Prim.Native.Nat.{ℕ}
 use Rattle.slices.specs.declared.Part.{Part}
 use Rattle.slices.specs.declared.Refusal.{Refusal}
-use Rattle.slices.specs.Refusals.{Fault, sound, fault, faultOf, _then_, when, Result, given, refused, unless}
+use Rattle.slices.specs.Refusals.{Fault, sound, fault, faultOf, _then_, when, Result, given, refused, unless, mapped, faultIn}
 
 pub when-fails : {t : Bool} (number : ℕ) (part : Part) (place : ℕ) → t ≡ true → when t number part place ≡ faultOf number part place
 when-fails number part place e = ap (λ (t : Bool). when t number part place) e
@@ -68,3 +68,18 @@ module _ {A : Type 0} where
   pub was-refused : (f : Fault) (z : A) {r : Refusal} → refused r ≡ unless f z → f ≡ fault r
   was-refused sound z e = absurd (subst Refuses e tt)
   was-refused (fault q) z {r} e = let d : q ≡ r = cc in ap fault d
+
+-- what was turned into an answer, and into a refusal
+module _ {A B : Type 0} (f : A → B) where
+  pub mapped-given : (x : Result A) {b : B} → mapped f x ≡ given b → (a : A) × (x ≡ given a) × (f a ≡ b)
+  mapped-given (given a) e = (a, refl, given-was e)
+  mapped-given (refused r) e = absurd (never-given e)
+
+  pub mapped-refused : (x : Result A) {r : Refusal} → mapped f x ≡ refused r → x ≡ refused r
+  mapped-refused (given a) e = absurd (never-given (sym e))
+  mapped-refused (refused s) e = ap refused (refused-was e)
+
+-- nothing is refused only of an answer
+pub sound-given : {A : Type 0} (x : Result A) → faultIn x ≡ sound → (a : A) × (x ≡ given a)
+sound-given (given a) e = (a, refl)
+sound-given (refused r) e = absurd (faulty e)

@@ -34,6 +34,16 @@ abbrev pub unless : {A : Type 0} → Fault → A → Result A
 unless sound a = given a
 unless (fault r) a = refused r
 
+-- An answer turned into another; a refusal stays.
+abbrev pub mapped : {A B : Type 0} → (A → B) → Result A → Result B
+mapped f (given a) = given (f a)
+mapped f (refused r) = refused r
+
+-- What a result is refused for.
+abbrev pub faultIn : {A : Type 0} → Result A → Fault
+faultIn (given a) = sound
+faultIn (refused r) = fault r
+
 -- The answer of a call that fills the out slice, by cases: the length filled, or the refusal.
 abbrev pub writtenSays : Written → Result ℕ
 writtenSays (Filled n) = given n

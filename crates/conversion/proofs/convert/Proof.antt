@@ -7,10 +7,10 @@ use lib.ListN.{length}
 use denote.Ref.{now}
 use Rattle.slices.specs.declared.Part.the-variants.{First}
 use Rattle.slices.specs.declared.Written.{Written}
-use Rattle.slices.specs.Refusals.{writtenSays}
+use Rattle.slices.specs.Refusals.{faultIn, writtenSays}
 use Rattle.slices.specs.Filling.{Fills}
 use Rattle.packed.specs.Faults.{sheetFault}
-use Rattle.notation.specs.Reading.{numbersOf, faultIn, bytesOf, readFault}
+use Rattle.notation.specs.Reading.{numbersOf, bytesOf, readFault}
 use Rattle.notation.specs.Text.{textOf}
 use Rattle.notation.specs.Writing.{writeFault}
 use Rattle.buchi_import.specs.Reading as buchi
@@ -87,7 +87,7 @@ returns-3 c = (
   λ n e.
       let s = c .before .before .before .before .before .before .before .before .args in
       let t = now (s .source) in
-      let h = fits (buchi.faultIn (buchi.numbersOf t)) (length (now (s .out))) (length (buchi.bytesOf t)) (sym (ap writtenSays e) ∙ c .before .before .import .ensures .says) in
+      let h = fits (faultIn (buchi.numbersOf t)) (length (now (s .out))) (length (buchi.bytesOf t)) (sym (ap writtenSays e) ∙ c .before .before .import .ensures .says) in
       omega (arith, h, c .before .before .import .kept .1 .0),
 )
 
