@@ -1,6 +1,6 @@
 -- One transition: what fits is the one that is due, one whose letter and state are due fits, and its text is its line. Assumes nothing.
 use mathlib.Core.Path.{_≡_, refl, ap, sym, _∙_}
-use mathlib.Core.Bool.{Bool, true, false, cond}
+use mathlib.Core.Bool.{Bool, true, false, cond, _&&_}
 use mathlib.Core.List.{List, [], _∷_, _++_, append-assoc}
 use Prim.Native.Nat.{ℕ, _+_, _/_, _%_, _≤_, _<_}
 use native.Mathlib.Omega.{arith}
@@ -20,17 +20,17 @@ use Rattle.buchi_import.specs.Reading.{turn, dueLetter, dueState, target
 
 -- a number in its turn
 turn-was : (limit number i end v : ℕ) → Takes (turn limit number i v) end v → (v ≡ i) × (v ≡ limit → ⊥)
-turn-was limit number i end v h = by (eqb v limit) refl h
+turn-was limit number i end v h = by (eqb i limit) refl (eqb v limit) refl h
   where
-    by : (b : Bool) → eqb v limit ≡ b → Takes (cond b (record { low = 0; limit = 0; number = cond (eqb i limit) number 12 }) (due i)) end v
-        → (v ≡ i) × (v ≡ limit → ⊥)
-    by true e t = absurd (omega (arith, t .high))
-    by false e t = (omega (arith, t .low, t .high), eqb-false v limit e)
+    by : (a : Bool) → eqb i limit ≡ a → (b : Bool) → eqb v limit ≡ b → Takes (cond (a && b) (record { low = 0; limit = 0; number = number }) (due i)) end v → (v ≡ i) × (v ≡ limit → ⊥)
+    by true d true e t = absurd (omega (arith, t .high))
+    by true d false e t = (omega (arith, t .low, t .high), eqb-false v limit e)
+    by false d b e t = let same : v ≡ i = omega (arith, t .low, t .high) in (same, λ z. eqb-false i limit d (sym same ∙ z))
 
 turn-is : (limit number i end v : ℕ) → v ≡ i → v < limit → limit ≤ 1000 → outside 48 58 end ≡ true → Takes (turn limit number i v) end v
 turn-is limit number i end v e l small ends =
-    let n : v ≡ limit → ⊥ = λ d. omega arith in
-    rw (ne-eqb v limit n) (record { low = omega arith; high = omega arith; small = omega arith; ends = ends })
+    let n : i ≡ limit → ⊥ = λ d. omega arith in
+    rw (ne-eqb i limit n) (record { low = omega arith; high = omega arith; small = omega arith; ends = ends })
 
 -- The transition after m, of which c are of state 0: one more of these, or the one that comes in its turn, c to each state.
 pub data Due (m c a q : ℕ) : Type 0 where

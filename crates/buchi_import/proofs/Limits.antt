@@ -1,7 +1,7 @@
 -- The formats of a text with a limit on its states, beside those with the limit 1000: they refuse with 5 a state that is not below the
 -- limit, and else say the same. Assumes nothing.
 use mathlib.Core.Path.{_≡_, refl, sym, _∙_}
-use mathlib.Core.Bool.{Bool, true, false, cond}
+use mathlib.Core.Bool.{Bool, true, false, cond, _&&_}
 use mathlib.Core.List.{[], _∷_}
 use Prim.Native.Nat.{ℕ, _≤_, _<_}
 use native.Mathlib.Omega.{arith}
@@ -20,12 +20,11 @@ eleven e = omega arith
 
 -- a number in its turn is not refused with 5
 in-turn : (limit number i v : ℕ) → (number ≡ 5 → ⊥) → Looser 5 (turn limit number i v) (turn limit number i v) v
-in-turn limit number i v h = looser-same (turn limit number i v) v (by (eqb v limit) (eqb i limit))
+in-turn limit number i v h = looser-same (turn limit number i v) v (by (eqb i limit && eqb v limit))
   where
-    by : (a b : Bool) → (cond a (record { low = 0; limit = 0; number = cond b number 12 }) (due i)) .number ≡ 5 → ⊥
-    by true true e = h e
-    by true false e = omega arith
-    by false b e = omega arith
+    by : (b : Bool) → (cond b (record { low = 0; limit = 0; number = number }) (due i)) .number ≡ 5 → ⊥
+    by true e = h e
+    by false e = omega arith
 
 module _ (limit : ℕ) where
   -- a column whose number is 5 where only the limit is not kept

@@ -25,7 +25,7 @@ use Rattle.buchi_import.specs.Reading.{rising, acceptingState, accepting
 use Rattle.buchi_import.specs.Steps.{Noted, AcceptingRead}
 use Rattle.buchi_import.proofs.Accepting.{Rising, rising-was, accepting-begin}
 
-pub noted-none : (old : List ℕ) → Noted old [] old
+noted-none : (old : List ℕ) → Noted old [] old
 unfolding isIn
 noted-none old = record { same = refl; cells = λ p h. refl }
 
@@ -63,7 +63,7 @@ is-in-last p (x ∷ vs) v = ap (λ (b : Bool). eqb x p || b) (is-in-last p vs v)
     swap true false c = refl
     swap false b c = refl
 
-pub noted-more : {old mid new : List ℕ} {vs : List ℕ} {v : ℕ} → Noted old vs mid → Noted mid (v ∷ []) new → Noted old (vs ++ (v ∷ [])) new
+noted-more : {old mid new : List ℕ} {vs : List ℕ} {v : ℕ} → Noted old vs mid → Noted mid (v ∷ []) new → Noted old (vs ++ (v ∷ [])) new
 noted-more {old} {mid} {new} {vs} {v} a b = record { same = b .same ∙ a .same; cells = λ p h. b .cells p (omega (arith, a .same)) ∙ by p h (isIn p (v ∷ [])) refl }
   where
     by : (p : ℕ) → p < length old → (x : Bool) → isIn p (v ∷ []) ≡ x → cond (isIn p (v ∷ [])) 1 (getD mid p 0) ≡ cond (isIn p (vs ++ (v ∷ []))) 1 (getD old p 0)

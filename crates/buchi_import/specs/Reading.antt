@@ -19,7 +19,7 @@ use Rattle.buchi_import.specs.Text.{startLine}
 
 -- The number i in its turn, which runs below a limit: another is 12, and the limit itself, where it is due, has a refusal of its own.
 abbrev pub turn : ℕ → ℕ → ℕ → ℕ → Column
-turn limit number i v = cond (eqb v limit) (record { low = 0; limit = 0; number = cond (eqb i limit) number 12 }) (due i)
+turn limit number i v = cond (eqb i limit && eqb v limit) (record { low = 0; limit = 0; number = number }) (due i)
 
 -- What is due after m transitions, c of them of state 0, where the letter a stands. Where all are of state 0: its next one, m, or the
 -- first one of state 1. Else the one that comes in its turn, c to each state.

@@ -25,24 +25,21 @@ fn turn(limit: usize, number: u8, due: usize, v: usize) -> Column
     requires { ⌜ due ≤ 1000 ⌝ }
     ensures { λ r. ⌜ r ≡ turn limit number due v ⌝ }
 {
-    if v != limit {
-        return Column {
-            low: due,
-            limit: due + 1,
-            number: 12,
-        };
+    let turn = Column {
+        low: due,
+        limit: due + 1,
+        number: 12,
+    };
+    if due != limit {
+        return turn;
     }
-    if due == limit {
-        return Column {
-            low: 0,
-            limit: 0,
-            number,
-        };
+    if v != limit {
+        return turn;
     }
     Column {
         low: 0,
         limit: 0,
-        number: 12,
+        number,
     }
 }
 

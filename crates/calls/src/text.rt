@@ -1,4 +1,4 @@
-// The sheet as text: number, read, write; and a drawn automaton: import. `room` is the slice that they fill.
+// The sheet as text: number, read, write; and a deterministic Büchi automaton: import. `room` is the slice that they fill.
 use forms::replies::NUMBER;
 use forms::replies::Reply;
 use forms::replies::refused;

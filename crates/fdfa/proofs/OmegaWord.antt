@@ -40,7 +40,7 @@ period-letter u v m h =
     ∙ power-letter v (suc (length u + m)) m (omega (arith, le-mul-of-pos-right (suc (length u + m)) h))
 
 -- a letter of u and c turns, where they reach it, however many they are
-pub word-letter : (u v : List ℕ) (c m : ℕ) → 0 < length v → m < length u + c * length v → getD (u ++ power v c) m 0 ≡ letterAt u v m
+word-letter : (u v : List ℕ) (c m : ℕ) → 0 < length v → m < length u + c * length v → getD (u ++ power v c) m 0 ≡ letterAt u v m
 unfolding letterAt
 word-letter u v c m h l =
     sym (more c (suc m) l)

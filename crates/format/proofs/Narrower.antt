@@ -129,7 +129,7 @@ module _ {k : ℕ} (other : 11 ≡ k → ⊥) where
   pub narrower-literal : (x : List ℕ) → Narrower k (literal x) (literal x)
   narrower-literal x = subst (λ f. Narrower k f f) (sym (each-chained (length x) (λ i. byte (getD x i 0) done))) (narrower-chained (length x) (λ i vs. narrower-byte (getD x i 0)))
 
-  pub narrower-choice : {c d : ℕ → Column} (end : ℕ) → ((v : ℕ) → v < 1000 → Looser k (c v) (d v) v) → Narrower k (choice c end) (choice d end)
+  narrower-choice : {c d : ℕ → Column} (end : ℕ) → ((v : ℕ) → v < 1000 → Looser k (c v) (d v) v) → Narrower k (choice c end) (choice d end)
   unfolding reading
   narrower-choice {c} {d} end h = record { staged = λ part t at. by part t at (numberAt part t at) refl }
     where

@@ -22,15 +22,9 @@ use borrow.Author.Needs.{needs}
 use Rattle.conversion.proofs.convert.Statement.{statement}
 use Rattle.conversion.proofs.convert.Tie as tie
 
--- each way, by the way that was taken
-packs : {w : Way} (t old : List ℕ) {out : List ℕ} {r : Written} → w ≡ Pack → Fills (readFault t (length old)) (bytesOf t) old out r → Converts w t old out r
-packs t old {out = out} {r = r} e h = subst (λ (w : Way). Converts w t old out r) (sym e) h
-
-unpacks : {w : Way} (b old : List ℕ) {out : List ℕ} {r : Written} → w ≡ Unpack → Fills (writeFault b (length old)) (textOf b) old out r → Converts w b old out r
-unpacks b old {out = out} {r = r} e h = subst (λ (w : Way). Converts w b old out r) (sym e) h
-
-imports : {w : Way} (t old : List ℕ) {out : List ℕ} {r : Written} → w ≡ Import → Fills (buchi.readFault t (length old)) (buchi.bytesOf t) old out r → Converts w t old out r
-imports t old {out = out} {r = r} e h = subst (λ (w : Way). Converts w t old out r) (sym e) h
+-- by the way that was taken
+taken : {w : Way} (v : Way) (t old out : List ℕ) (r : Written) → w ≡ v → Converts v t old out r → Converts w t old out r
+taken v t old out r e h = subst (λ (w : Way). Converts w t old out r) (sym e) h
 
 enum-told : tie.Need-enum-told
 enum-told c = search needs
@@ -56,7 +50,7 @@ same-length c = search needs
 returns : tie.Need-returns
 unfolding readFault bytesOf
 returns c = (
-  packs (now (c .before .before .before .before .before .before .before .before .args .source)) (now (c .before .before .before .before .before .before .before .before .args .out)) (c .before .before .before .before .enum-told .given .1) (c .before .before .read .ensures),
+  taken Pack (now (c .before .before .before .before .before .before .before .before .args .source)) (now (c .before .before .before .before .before .before .before .before .args .out)) (c .before .before .read .last .1 .0) (c .before .before .read .result) (c .before .before .before .before .enum-told .given .1) (c .before .before .read .ensures),
   λ n e.
       let s = c .before .before .before .before .before .before .before .before .args in
       let t = now (s .source) in
@@ -69,7 +63,7 @@ same-length-2 c = search needs
 
 returns-2 : tie.Need-returns-2
 returns-2 c = (
-  unpacks (now (c .before .before .before .before .before .before .before .before .args .source)) (now (c .before .before .before .before .before .before .before .before .args .out)) (c .before .before .before .before .enum-told2 .given .1) (c .before .before .write .ensures),
+  taken Unpack (now (c .before .before .before .before .before .before .before .before .args .source)) (now (c .before .before .before .before .before .before .before .before .args .out)) (c .before .before .write .last .1 .0) (c .before .before .write .result) (c .before .before .before .before .enum-told2 .given .1) (c .before .before .write .ensures),
   λ n e.
       let s = c .before .before .before .before .before .before .before .before .args in
       let t = now (s .source) in
@@ -83,7 +77,7 @@ same-length-3 c = search needs
 returns-3 : tie.Need-returns-3
 unfolding buchi.readFault buchi.bytesOf
 returns-3 c = (
-  imports (now (c .before .before .before .before .before .before .before .before .args .source)) (now (c .before .before .before .before .before .before .before .before .args .out)) (c .before .before .before .before .enum-told3 .given .1) (c .before .before .import .ensures),
+  taken Import (now (c .before .before .before .before .before .before .before .before .args .source)) (now (c .before .before .before .before .before .before .before .before .args .out)) (c .before .before .import .last .1 .0) (c .before .before .import .result) (c .before .before .before .before .enum-told3 .given .1) (c .before .before .import .ensures),
   λ n e.
       let s = c .before .before .before .before .before .before .before .before .args in
       let t = now (s .source) in

@@ -1,11 +1,11 @@
 -- `buchi_import::single::read_last` meets its contract. Assumes nothing.
-use mathlib.Core.Path.{ap, sym, _∙_}
+use mathlib.Core.Path.{_≡_, ap, sym, _∙_}
 use mathlib.Core.List.{List, [], _∷_}
 use Prim.Native.Nat.{ℕ, _≤_}
 use denote.Ref.{now}
 use lib.ListN.{length}
 use Rattle.slices.specs.declared.Part.the-variants.{First}
-use Rattle.format.specs.Format.{Format, after, reading, literal}
+use Rattle.format.specs.Format.{Format, after, reading, seq, literal}
 use Rattle.format.specs.Lines.{labelled}
 use Rattle.format.specs.Steps.{stepSays}
 use Rattle.format.proofs.Fixed.{fixed-literal}
@@ -61,23 +61,25 @@ within c =
     let s = start b in
     cell-within First (now (s .args .text)) (cell s) (s .args .at) (b .read-labelled .ensures) (s .pre) (c .state2 .given .1)
 
+-- so that the line feed is left
+rest : (c : tie.After-state2) → let s = start (c .before .before) in
+    reading First (now (s .args .text)) (seq (cell s) feed) (s .args .at) ≡ after (c .state2 .given .0 .0 ∷ []) (reading First (now (s .args .text)) (literal (10 ∷ [])) (c .state2 .given .0 .1 .0))
+rest c =
+    let b = c .before .before in
+    let s = start b in
+    cell-got First (now (s .args .text)) (cell s) (s .args .at) (b .read-labelled .ensures) feed (c .state2 .given .1)
+
 returns-2 : tie.Need-returns-2
 returns-2 c =
     let l = c .before .before .before in
     let k = place l in
-    let b = k .before .before in
-    let s = start b in
-    sym (cell-got First (now (s .args .text)) (cell s) (s .args .at) (b .read-labelled .ensures) feed (k .state2 .given .1)
-    ∙ ap (after (k .state2 .given .0 .0 ∷ [])) (placed-refused (reading First (now (s .args .text)) (literal (10 ∷ [])) (k .state2 .given .0 .1 .0)) (sym (l .read-literal .ensures) ∙ ap stepSays (c .before .step .given .1))))
+    sym (rest k ∙ ap (after (k .state2 .given .0 .0 ∷ [])) (placed-refused (reading First (now (start (k .before .before) .args .text)) (literal (10 ∷ [])) (k .state2 .given .0 .1 .0)) (sym (l .read-literal .ensures) ∙ ap stepSays (c .before .step .given .1))))
 
 returns-3 : tie.Need-returns-3
 returns-3 c =
     let l = c .before .before .before in
     let k = place l in
-    let b = k .before .before in
-    let s = start b in
-    sym (cell-got First (now (s .args .text)) (cell s) (s .args .at) (b .read-labelled .ensures) feed (k .state2 .given .1)
-    ∙ ap (after (k .state2 .given .0 .0 ∷ [])) (step-read First (now (s .args .text)) (fixed-literal (10 ∷ [])) feed (k .state2 .given .0 .1 .0) (l .read-literal .ensures) (within k) (c .before .step2 .given .1)))
+    sym (rest k ∙ ap (after (k .state2 .given .0 .0 ∷ [])) (step-read First (now (start (k .before .before) .args .text)) (fixed-literal (10 ∷ [])) feed (k .state2 .given .0 .1 .0) (l .read-literal .ensures) (within k) (c .before .step2 .given .1)))
 
 pub read-last-spec : {M : Type 1} → statement M
 read-last-spec =
