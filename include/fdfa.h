@@ -28,7 +28,7 @@ extern "C" {
  * loop     the show's loop, one byte a scene
  * answer   FDFA_VERDICT_BYTES or more, of which the first FDFA_VERDICT_BYTES are written
  *
- * Returns 1, or 0 if answer is too short, when nothing is written.
+ * The call takes at most 64 KiB of stack. Returns 1, or 0 if answer is too short, when nothing is written.
  */
 uint32_t fdfa_verdict(const uint8_t *sheet, size_t sheet_len,
                       const uint8_t *opening, size_t opening_len,

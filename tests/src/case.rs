@@ -61,7 +61,7 @@ impl Case {
 
 fn random_verdict(random: &mut Random) -> Case {
     let (kind, sheet) = any_sheet(random);
-    let letters = sheet.first().map_or(1, |&letters| (letters as usize).clamp(1, MOST));
+    let letters = letters_of(&sheet);
     let mut prefix = word(random, letters);
     let mut period = if random.once_in(8) { Vec::new() } else { word(random, letters) };
     let shared = random.once_in(32);
@@ -69,9 +69,8 @@ fn random_verdict(random: &mut Random) -> Case {
         period = prefix.clone();
     }
     for word in [&mut prefix, &mut period] {
-        if !shared && !word.is_empty() && random.once_in(6) {
-            let at = random.below(word.len());
-            word[at] = if random.once_in(2) { letters as u8 } else { random.between(letters, 255) as u8 };
+        if !shared && random.once_in(6) {
+            put_unknown(random, word, letters);
         }
     }
     let answer = answer(random, VERDICT_BYTES);
@@ -102,6 +101,20 @@ fn finish(random: &mut Random, call: Call, kind: &'static str, slices: Vec<Vec<u
     };
     let placements = slices.iter().map(|slice| placement(slice, random)).collect();
     Case { call, kind, slices, placements, shared }
+}
+
+/// How many letters a packed sheet has; where it is not in order, some count.
+pub fn letters_of(sheet: &[u8]) -> usize {
+    sheet.first().map_or(1, |&letters| (letters as usize).clamp(1, MOST))
+}
+
+/// Puts one to three letters that are out of range into a word, unless it is empty: at its start, at its end, or anywhere.
+pub fn put_unknown(random: &mut Random, word: &mut [u8], letters: usize) {
+    let Some(last) = word.len().checked_sub(1) else { return };
+    for _ in 0..random.between(1, 3) {
+        let (at, any) = (random.between(0, last), random.between(letters, 255));
+        word[random.pick(&[0, last, at, at])] = random.pick(&[letters, letters, 255, any]) as u8;
+    }
 }
 
 /// Letters at random, one letter again and again, or a short word again and again; mostly few, now and then very many.

@@ -1,8 +1,8 @@
 //! The calls written a second time, from the papers alone, and what holds the static library and the programs `driver`, `compare` and
 //! `verdict` to them.
 //!
-//! `sheet`, `verdict`, `inclusion`, `standing`, `emptiness`, `boolean`, `cursor`, `numeral`, `sheet_text`, `show_text`, `buchi` and
-//! `buchi_text` are the independent implementation (`lent` and `text_reader` are what they share); `naive` tries all short lassos and
+//! `sheet`, `verdict`, `pass`, `inclusion`, `standing`, `emptiness`, `boolean`, `cursor`, `numeral`, `sheet_text`, `show_text`, `buchi`
+//! and `buchi_text` are the independent implementation (`lent` and `text_reader` are what they share); `naive` tries all short lassos and
 //! checks `inclusion` and `emptiness`.
 //! `library` calls the static library, on slices that `guarded` lends; `layout` has the bytes of the answers that are due.
 //! `generate`, `mix` and `case` make sheets and cases at random, `rows` has those of the papers, `check` runs one and compares all bytes,
@@ -27,6 +27,7 @@ pub mod library;
 pub mod mix;
 pub mod naive;
 pub mod numeral;
+pub mod pass;
 pub mod printed;
 pub mod program_runs;
 pub mod random;

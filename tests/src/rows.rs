@@ -51,6 +51,8 @@ fn verdict_row(name: &'static str, sheet: &[u8], prefix: &[u8], period: &[u8], n
 }
 
 fn verdict_rows() -> Vec<Row> {
+    let zeros = [0; 4097];
+    let last_unknown = [&zeros[1..], &[2]].concat();
     vec![
         verdict_row("B, (-, 0)", B, &[], &[0], &[0, 1, 0, 1, 0, 1]),
         verdict_row("B, (0, 1)", B, &[0], &[1], &[0, 0, 0, 1, 0, 0]),
@@ -60,6 +62,8 @@ fn verdict_rows() -> Vec<Row> {
         verdict_row("E, (0 0, 0)", E, &[0, 0], &[0], &[0, 0, 0, 2, 2, 0]),
         verdict_row("D, (-, 0)", D, &[], &[0], &[0, 1, 0, 2, 0, 0]),
         verdict_row("a bad opening goes before an empty loop", B, &[0, 2], &[], &[9, 2, 1]),
+        verdict_row("a long opening", D, &zeros, &[0], &[0, 1, 0, 2, 1, 0]),
+        verdict_row("a long opening, bad at its end, and a bad loop", B, &last_unknown, &[2], &[9, 2, 4096]),
         verdict_row("an empty loop", B, &[0, 1], &[], &[8, 3, 0]),
         verdict_row("a bad loop", B, &[], &[0, 1, 7], &[9, 3, 2]),
         verdict_row("10 bytes of B", &B[..10], &[], &[0], &[1, 0, 10]),

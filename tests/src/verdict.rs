@@ -15,14 +15,11 @@ pub struct Verdict {
 
 pub fn verdict(sheet: &[u8], prefix: &[u8], period: &[u8]) -> Result<Verdict, Refusal> {
     let sheet = Sheet::read(sheet, Part::First)?;
-    check_letters(prefix, sheet.letters, Part::Opening)?;
+    let table = Table::new(sheet.leading(), sheet.letters);
+    let mut state = table.pass(0, prefix, Part::Opening)?;
     if period.is_empty() {
         return Err(Refusal { number: 8, part: Part::Loop, place: 0 });
     }
-    check_letters(period, sheet.letters, Part::Loop)?;
-
-    let table = Table::new(sheet.leading(), sheet.letters);
-    let mut state = table.walk(0, prefix);
     let mut first_turn = [None; MOST];
     let mut turn = 0;
     let before = loop {
@@ -30,7 +27,7 @@ pub fn verdict(sheet: &[u8], prefix: &[u8], period: &[u8]) -> Result<Verdict, Re
             break before;
         }
         first_turn[state as usize] = Some(turn);
-        state = table.walk(state, period);
+        state = table.pass(state, period, Part::Loop)?;
         turn += 1;
     };
     let turns = turn - before;
@@ -38,47 +35,54 @@ pub fn verdict(sheet: &[u8], prefix: &[u8], period: &[u8]) -> Result<Verdict, Re
     let leading = state as usize;
     let progress = sheet.progress(leading);
     let table = Table::new(progress, sheet.letters);
-    let end = (0..turns).fold(0, |state, _| table.walk(state, period)) as usize;
+    let end = (0..turns).try_fold(0, |state, _| table.pass(state, period, Part::Loop))? as usize;
     Ok(Verdict { accepted: progress.marks[end] == 1, before, turns, leading, end })
 }
 
-/// Refusal 9 at the first letter that is out of range. Blocks are judged by their largest letter, which takes vector instructions.
-fn check_letters(word: &[u8], letters: usize, part: Part) -> Result<(), Refusal> {
-    const BLOCK: usize = 4096;
-    for (block, chunk) in word.chunks(BLOCK).enumerate() {
-        if chunk.iter().fold(0, |most, &letter| letter.max(most)) as usize >= letters {
-            let at = chunk.iter().position(|&letter| letter as usize >= letters).expect("the largest is");
-            return Err(Refusal { number: 9, part, place: block * BLOCK + at });
-        }
-    }
-    Ok(())
-}
-
 /// Next states by letter, then by state: a step is one load whose address waits for the last state alone, and no index needs a check.
-struct Table([[u8; 256]; MOST]);
+struct Table {
+    next: [[u8; 256]; MOST],
+    letters: usize,
+}
 
 impl Table {
     fn new(automaton: Automaton, letters: usize) -> Self {
-        let mut table = [[0; 256]; MOST];
+        let mut next = [[0; 256]; MOST];
         for (state, row) in automaton.next.chunks_exact(letters).enumerate() {
-            for (letter, &next) in row.iter().enumerate() {
-                table[letter][state] = next;
+            for (letter, &to) in row.iter().enumerate() {
+                next[letter][state] = to;
             }
         }
-        Table(table)
+        Table { next, letters }
     }
 
-    /// The state after a word whose letters are in range.
-    fn walk(&self, from: u8, word: &[u8]) -> u8 {
-        word.iter().fold(from, |state, &letter| self.0[letter as usize % MOST][state as usize])
+    /// The state after a word, or refusal 9 at its first letter that is out of range. A block's largest letter is kept beside the state:
+    /// that takes no time, since each step waits for its load, where a branch for each letter would.
+    fn pass(&self, from: u8, word: &[u8], part: Part) -> Result<u8, Refusal> {
+        const BLOCK: usize = 4096;
+        let mut state = from;
+        for (block, chunk) in word.chunks(BLOCK).enumerate() {
+            let mut most = 0;
+            for &letter in chunk {
+                most = letter.max(most);
+                state = self.next[letter as usize % MOST][state as usize];
+            }
+            if most as usize >= self.letters {
+                let at = chunk.iter().position(|&letter| letter as usize >= self.letters).expect("the largest is");
+                return Err(Refusal { number: 9, part, place: block * BLOCK + at });
+            }
+        }
+        Ok(state)
     }
 }
 
 #[cfg(test)]
 mod tests {
     use super::*;
+    use crate::case::put_unknown;
     use crate::generate;
     use crate::naive::Family;
+    use crate::pass::{pass, Pass};
     use crate::random::Random;
 
     #[test]
@@ -98,6 +102,25 @@ mod tests {
             turns += (given.turns > 1) as usize;
         }
         assert!(before > 1000 && turns > 1000, "the mix has lassos that do not close");
+    }
+
+    #[test]
+    fn one_pass_comes_to_what_its_definition_says() {
+        let mut random = Random::new(3);
+        for length in [0, 1, 2, 4095, 4096, 4097, 8192, 9999].repeat(50) {
+            let bytes = generate::sheet(&mut random).pack();
+            let sheet = Sheet::read(&bytes, Part::First).unwrap();
+            let mut prefix = random.word(length, sheet.letters);
+            if random.once_in(2) {
+                put_unknown(&mut random, &mut prefix, sheet.letters);
+            }
+            let due = match pass(&sheet, &prefix) {
+                Pass::Reached(state) => Ok(state as u8),
+                Pass::Unknown(place) => Err(Refusal { number: 9, part: Part::Opening, place }),
+            };
+            let table = Table::new(sheet.leading(), sheet.letters);
+            assert_eq!(table.pass(0, &prefix, Part::Opening), due);
+        }
     }
 
     #[test]

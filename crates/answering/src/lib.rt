@@ -19,6 +19,7 @@ use lines::words::until;
 fn perform(
     call: usize,
     g: Given,
+    line: &[u8],
     inputs: &[u8],
     x: &mut [u8],
     y: &mut [u8],
@@ -26,7 +27,7 @@ fn perform(
     out: &mut [u8],
     n: usize,
 ) -> usize {
-    let reply = make(call, g, inputs, x, y, w);
+    let reply = make(call, g, line, inputs, x, y, w);
     let to = put_reply(out, n, reply, x, w);
     put_all_lent(out, to, form(call), x, y, w)
 }
@@ -62,6 +63,7 @@ fn answer(
     perform(
         call,
         g,
+        line,
         inputs,
         front_mut(x, g.x),
         front_mut(y, g.y),

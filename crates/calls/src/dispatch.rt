@@ -15,8 +15,8 @@ use forms::table::find;
 use forms::table::form_of;
 use lines::words::Word;
 
-const FORMS: [u8; 211] =
-    *b"check i|verdict i i i|complement i x|intersection i i x|union i i x|compare i i x y w|emptiness i x y w|start i|step p n i i|rest p n i i|number i n|read i x|write i x|read-show i x y|write-show i i x|import i x";
+const FORMS: [u8; 234] =
+    *b"check i|verdict i i i|complement i x|intersection i i x|union i i x|compare i i x y w|emptiness i x y w|start i|step p n i i|rest p n i i|number i n|read i x|write i x|read-show i x y|write-show i i x|import i x|pass i i m m m m m m m";
 
 // The call that a line makes.
 pub fn call_of(line: &[u8]) -> Word {
@@ -31,6 +31,7 @@ pub fn form(call: usize) -> Form {
 pub fn make(
     call: usize,
     g: Given,
+    line: &[u8],
     inputs: &[u8],
     x: &mut [u8],
     y: &mut [u8],
@@ -56,6 +57,7 @@ pub fn make(
         13 => shows::read(a, x, y),
         14 => shows::write(a, b, x),
         15 => text::import(a, x),
+        16 => sheet::pass(a, line, x, w),
         _ => say(REFUSED),
     }
 }

@@ -1,5 +1,6 @@
 pub mod Words
 pub mod Letters
+pub mod Pass
 pub mod Order
 pub mod Pigeonhole
 pub mod Returns

@@ -8,3 +8,4 @@ pub mod Inclusion
 pub mod Invariance
 pub mod OmegaWord
 pub mod Buchi
+pub mod Pass

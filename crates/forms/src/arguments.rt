@@ -1,5 +1,5 @@
 // The arguments of a line, by their kinds: `i` is a slice of bytes that the call only reads, `x` and `y` one that is lent to it, `w`
-// one of 64-bit cells, `n` a number, `p` a cursor's part.
+// one of 64-bit cells, `n` a number, `p` a cursor's part. `m` is a slice of bytes that the call reads itself, one after the other.
 use crate::replies::LOOP;
 use crate::replies::OPENING;
 use crate::table::Form;
@@ -9,6 +9,7 @@ use lines::reading::slice_in;
 use lines::words::Word;
 use lines::words::number_in;
 use lines::words::piece;
+use lines::words::pieces;
 
 // The longest slice of bytes.
 pub const LONGEST: usize = 300000;
@@ -129,6 +130,7 @@ fn read(
 ) -> Word {
     match kind {
         b'i' => read_input(word, inputs, from, w),
+        b'm' => slice_in(word, Width::Byte, x, w),
         b'x' => slice_in(word, Width::Byte, x, w),
         b'y' => slice_in(word, Width::Byte, y, w),
         b'w' => slice_in(word, Width::Long, x, w),
@@ -136,6 +138,11 @@ fn read(
         b'p' => part_in(word),
         _ => Word::Good(0),
     }
+}
+
+// The kind of an argument, or 0 where the line has ended before it.
+fn due(kind: u8, is_there: bool) -> u8 {
+    if is_there { kind } else { 0 }
 }
 
 // All arguments of a line of a form.
@@ -148,19 +155,13 @@ pub fn read_all(
     w: &mut [u64],
 ) -> Given {
     let kinds = form.kinds;
+    let words = pieces(line, b' ');
     let mut given = nothing();
     let mut k = 0;
-    while k < 8 {
-        let found = read(
-            kinds[k],
-            piece(line, b' ', k + 1),
-            given.end(),
-            inputs,
-            x,
-            y,
-            w,
-        );
-        given = given.with(kinds[k], found);
+    while k < 9 {
+        let kind = due(kinds[k], k + 1 < words);
+        let found = read(kind, piece(line, b' ', k + 1), given.end(), inputs, x, y, w);
+        given = given.with(kind, found);
         k += 1;
     }
     given

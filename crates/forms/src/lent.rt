@@ -40,7 +40,7 @@ pub fn put_all_lent(out: &mut [u8], n: usize, form: Form, x: &[u8], y: &[u8], w:
     let mut last = 0;
     let mut to = n;
     let mut k = 0;
-    while k < 8 {
+    while k < 9 {
         to = put_lent(last, kinds[k], x, y, w, out, to);
         last = kinds[k];
         k += 1;

@@ -12,8 +12,8 @@ use slices::Written;
 use slices::wide;
 
 // The words of answers. A word's number is its place among them.
-const WORDS: [u8; 129] =
-    *b"refused first second opening loop out work cursor valid accepted rejected filled contained missing empty found passed rest number";
+const WORDS: [u8; 145] =
+    *b"refused first second opening loop out work cursor valid accepted rejected filled contained missing empty found passed rest number reached unknown";
 
 pub const REFUSED: usize = 0;
 
@@ -44,6 +44,10 @@ pub const PASSED: usize = 16;
 pub const REST: usize = 17;
 
 pub const NUMBER: usize = 18;
+
+pub const REACHED: usize = 19;
+
+pub const UNKNOWN: usize = 20;
 
 // The first `count` items, each a word where `words` says so, else a number. Where `has_slice`, the first `slice` bytes of the first
 // lent slice follow.

@@ -5,6 +5,7 @@ use Prim.Native.Nat.{ℕ, _≤_}
 use native.Mathlib.Omega.{arith}
 use lib.Dec.{ltb}
 use lib.ListN.{length}
+use Rattle.slices.specs.Capped.{capped}
 use Rattle.slices.specs.declared.Part.{Part}
 use Rattle.slices.specs.declared.Part.the-variants.{Out}
 use Rattle.slices.specs.Refusals.{sound, when, Result, given, refused}
@@ -13,7 +14,7 @@ use Rattle.slices.proofs.Refusals.{passed, faulty, then-left}
 use Rattle.fdfa.proofs.Letters.{letters-lasso, lasso-letters}
 use Rattle.lasso_text.specs.Text.{lassoText, Readable}
 use Rattle.lasso_text.specs.Reading.{Words, wordsOf, wordsIn, textFault, roomFault, readFault}
-use Rattle.lasso_text.specs.Writing.{capped, writeFault}
+use Rattle.lasso_text.specs.Writing.{writeFault}
 use Rattle.lasso_text.proofs.Texts.{text-words, words-was}
 
 sound-given : (x : Result Words) → textFault x ≡ sound → x ≡ given (wordsIn x)

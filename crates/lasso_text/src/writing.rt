@@ -8,29 +8,18 @@ use slices::Part;
 use slices::Written;
 use slices::check_lasso;
 use slices::refuse;
+use slices::sum;
 use slices::wide;
 ghost use mathlib.Core.Path.{_≡_};
 ghost use mathlib.Core.List.{_++_};
 ghost use Prim.Native.Nat.{_+_, _≤_};
 ghost use lib.ListN.{length};
+ghost use Rattle.slices.specs.Capped.{capped};
 ghost use Rattle.slices.specs.Filling.{Fills};
 ghost use Rattle.numbers.specs.Digits.{field};
 ghost use Rattle.numbers.specs.Storing.{Stored};
 ghost use Rattle.lasso_text.specs.Text.{letterLines, lassoText};
-ghost use Rattle.lasso_text.specs.Writing.{capped, writeFault};
-
-// The largest number.
-const MOST: usize = 18446744073709551615;
-
-// The sum, or the largest number where it is more.
-fn sum(a: usize, b: usize) -> usize
-    ensures { λ r. ⌜ r ≡ capped (a + b) ⌝ }
-{
-    if MOST - a < b {
-        return MOST;
-    }
-    a + b
-}
+ghost use Rattle.lasso_text.specs.Writing.{writeFault};
 
 // How long the lines of a word are, after `from` bytes.
 fn measure(name: &[u8], word: &[u8], from: usize) -> usize

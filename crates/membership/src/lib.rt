@@ -1,18 +1,23 @@
 // Membership of a lasso: whether a family of DFAs accepts the pair of a prefix and a period, with its normalization.
 use packed::Sizes;
 use packed::Validity;
+use prefix_pass::Held;
+use prefix_pass::pass_on;
+use prefix_pass::start;
 use slices::Letters;
 use slices::Part;
 use slices::Refusal;
-use slices::check_lasso;
+use slices::check_period;
+use slices::refuse;
 ghost use mathlib.Core.Path.{_≡_};
 ghost use Prim.Native.Nat.{_<_};
 ghost use Rattle.fdfa.specs.Words.{Over};
-ghost use Rattle.fdfa.specs.Family.{Lasso};
-ghost use Rattle.packed.specs.Layout.{letterCount, stateCount, leadingAt, decode, Valid};
+ghost use Rattle.packed.specs.Layout.{letterCount, stateCount, decode, Valid};
+ghost use Rattle.packed.specs.Faults.{sizesOf};
+ghost use Rattle.prefix_pass.specs.Steps.{Stepping};
 ghost use Rattle.slices.specs.declared.Refusal.{Refusal};
-ghost use Rattle.membership.specs.Verdict.{checkedLasso, verdictOf, saysOf, checkSays};
-ghost use Rattle.membership.specs.Steps.{normalizedOf, endedOf};
+ghost use Rattle.membership.specs.Verdict.{verdictOf, saysOf};
+ghost use Rattle.membership.specs.Steps.{checkedLasso, checkSays, judgedLasso, turnsFrom, Turning, Returns, endedOf};
 
 // The verdict: whether the lasso is accepted, i and j, the leading state q after u and i turns, and the state of q's
 // progress automaton after j turns.
@@ -27,9 +32,9 @@ pub enum Judgement {
     Refused(Refusal),
 }
 
-// What the check of a sheet and a lasso says.
-pub enum Checked {
-    Lasso(Sizes),
+// What the check of a lasso says: the leading state that the pass over the prefix reached, or the refusal.
+enum Checked {
+    Lasso(usize),
     Refused(Refusal),
 }
 
@@ -46,45 +51,36 @@ struct Ended {
     accepted: bool,
 }
 
-// Whether sheet and lasso are good: first the sheet, then the prefix, then the period.
-pub fn check(sheet: &[u8], prefix: &[u8], period: &[u8]) -> Checked
-    ensures { λ r. ⌜ checkSays r ≡ checkedLasso (now (sheet .entry)) (now (prefix .entry)) (now (period .entry)) ⌝ }
+// Whether the words are a lasso over the letters: the prefix in one pass by the leading table, then the period.
+fn check(table: &[u8], letters: usize, prefix: &[u8], period: &[u8]) -> Checked
+    requires { ⌜ Stepping (now table) letters ⌝ }
+    ensures { λ r. ⌜ checkSays r ≡ checkedLasso (now (table .entry)) letters (now (prefix .entry)) (now (period .entry)) ⌝ }
 {
-    let validity = packed::check(sheet, Part::First);
-    match validity {
-        Validity::Refused(r) => Checked::Refused(r),
-        Validity::Valid(sizes) => {
-            let s = sizes.letters;
-            let letters = check_lasso(prefix, period, s);
-            match letters {
+    let held = pass_on(table, letters, start(), prefix);
+    match held {
+        Held::Unknown(i) => Checked::Refused(refuse(9, Part::Opening, i)),
+        Held::Reached { state, at: _ } => {
+            let judged = check_period(period, letters);
+            match judged {
                 Letters::Refused(r) => Checked::Refused(r),
-                Letters::Known => Checked::Lasso(sizes),
+                Letters::Known => Checked::Lasso(state),
             }
         }
     }
 }
 
-// Goes by the period from the leading state after the prefix until a state comes again. `seen` has, for each state, one more
-// than the turns after which it was first there.
-fn normalize(
-    sheet: &[u8],
-    at: usize,
-    letters: usize,
-    states: usize,
-    prefix: &[u8],
-    period: &[u8],
-) -> Normalization
-    requires { ⌜ Valid (now sheet) × Lasso (letterCount (now sheet)) (now prefix) (now period) ⌝ }
-    requires { ⌜ (at ≡ leadingAt (now sheet)) × (letters ≡ letterCount (now sheet)) × (states ≡ stateCount (now sheet)) ⌝ }
-    ensures { λ r. ⌜ r ≡ normalizedOf (decode (now (sheet .entry))) (now (prefix .entry)) (now (period .entry)) ⌝ }
+// Goes by the period from a state until a state comes again. `seen` has, for each state, one more than the turns after which it was
+// first there.
+fn normalize(table: &[u8], state: usize, period: &[u8]) -> Normalization
+    requires { ⌜ Turning (now table) state (now period) ⌝ }
+    ensures { λ r. ⌜ Returns (turnsFrom (now (table .entry)) state (now (period .entry))) r ⌝ }
 {
-    let table = packed::columns(sheet, at, letters, states);
     let mut seen = [0usize; 32];
-    let mut q = packed::walk(&table, 0, prefix);
+    let mut q = state;
     let mut t = 0;
     while seen[q] == 0 {
         seen[q] = t + 1;
-        q = packed::walk(&table, q, period);
+        q = packed::walk(table, q, period);
         t += 1;
     }
     let i = seen[q] - 1;
@@ -133,22 +129,34 @@ fn refused(c: Checked) -> Judgement
     }
 }
 
-// The verdict of the sheet's family on the lasso (01: the show), or the refusal.
-pub fn verdict(sheet: &[u8], prefix: &[u8], period: &[u8]) -> Judgement
-    ensures { λ r. ⌜ saysOf r ≡ verdictOf (now (sheet .entry)) (now (prefix .entry)) (now (period .entry)) ⌝ }
+// The verdict of a good sheet: the walk over the period goes on from where the pass over the prefix came to.
+fn judge(sheet: &[u8], z: Sizes, prefix: &[u8], period: &[u8]) -> Judgement
+    requires { ⌜ Valid (now sheet) × (z ≡ sizesOf (now sheet)) ⌝ }
+    ensures { λ r. ⌜ saysOf r ≡ judgedLasso (now (sheet .entry)) (now (prefix .entry)) (now (period .entry)) ⌝ }
 {
-    let checked = check(sheet, prefix, period);
-    let Checked::Lasso(sizes) = checked else {
+    let table = packed::columns(sheet, 2 + z.states, z.letters, z.states);
+    let checked = check(&table, z.letters, prefix, period);
+    let Checked::Lasso(state) = checked else {
         return refused(checked);
     };
-    let s = sizes.letters;
-    let n = normalize(sheet, 2 + sizes.states, s, sizes.states, prefix, period);
-    let ended = progress(sheet, s, n.state, period, n.j);
+    let n = normalize(&table, state, period);
+    let ended = progress(sheet, z.letters, n.state, period, n.j);
     Judgement::Given {
         accepted: ended.accepted,
         i: n.i,
         j: n.j,
         state: n.state,
         end: ended.end,
+    }
+}
+
+// The verdict of the sheet's family on the lasso (01: the show), or the refusal.
+pub fn verdict(sheet: &[u8], prefix: &[u8], period: &[u8]) -> Judgement
+    ensures { λ r. ⌜ saysOf r ≡ verdictOf (now (sheet .entry)) (now (prefix .entry)) (now (period .entry)) ⌝ }
+{
+    let validity = packed::check(sheet, Part::First);
+    match validity {
+        Validity::Refused(r) => Judgement::Refused(r),
+        Validity::Valid(z) => judge(sheet, z, prefix, period),
     }
 }

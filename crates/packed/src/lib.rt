@@ -7,6 +7,8 @@ pub use checking::check_pair;
 use slices::Refusal;
 use slices::wide;
 pub use walking::columns;
+pub use walking::step;
+pub use walking::step_from;
 pub use walking::walk;
 ghost use mathlib.Core.Path.{_≡_};
 ghost use Prim.Native.Nat.{_+_, _*_, _≤_, _<_};

@@ -40,6 +40,22 @@ fn read(column: &[u8], state: usize) -> usize
     wide(column[state])
 }
 
+// The next state by a column that begins at `from`: the address of the load waits for the state alone.
+pub fn step_from(table: &[u8], from: usize, state: usize) -> usize
+    requires { ⌜ from + state < length (now table) ⌝ }
+    ensures { λ r. ⌜ r ≡ getD (now (table .entry)) (from + state) 0 ⌝ }
+{
+    read(&table[from..], state)
+}
+
+// The next state by a letter.
+pub fn step(table: &[u8], state: usize, letter: usize) -> usize
+    requires { ⌜ 32 * letter + state < length (now table) ⌝ }
+    ensures { λ r. ⌜ r ≡ columnStep (now (table .entry)) state letter ⌝ }
+{
+    step_from(table, 32 * letter, state)
+}
+
 // Where the automaton stands after the word, from `state`.
 pub fn walk(table: &[u8], state: usize, word: &[u8]) -> usize
     requires { ⌜ Walkable (now table) state (now word) ⌝ }
@@ -48,8 +64,7 @@ pub fn walk(table: &[u8], state: usize, word: &[u8]) -> usize
     let mut q = state;
     let mut i = 0;
     while i < word.len() {
-        let from = 32 * wide(word[i]);
-        q = read(&table[from..], q);
+        q = step(table, q, wide(word[i]));
         i += 1;
     }
     q

@@ -4,7 +4,7 @@ use mathlib.Core.List.{List, [], _∷_, _++_, append-nil, append-assoc}
 use Prim.Native.Nat.{ℕ, zero, suc, _+_, _-_, _≤_, _<_}
 use native.Mathlib.Omega.{arith}
 use native.Mathlib.Numerals.{add-one}
-use lib.ListN.{length, getD, take, drop, set, length-set, length-append, length-take, length-drop, drop-of-length-le, replicate}
+use lib.ListN.{length, getD, take, drop, set, length-set, length-append, length-take, length-drop, drop-of-length-le, replicate, length-replicate}
 use lib.Seq.{length-take-le, take-all, take-append-seam, drop-append-seam, drop-append-add, drop-drop, drop-cons, set-append-seam}
 use Rattle.slices.specs.declared.Refusal.{Refusal}
 use Rattle.slices.specs.declared.Written.{Written}
@@ -12,7 +12,7 @@ use Rattle.slices.specs.declared.Written.the-variants.{Filled, Refused}
 use Rattle.slices.specs.Refusals.{Fault, sound, fault, given, unless}
 use Rattle.slices.specs.Filling.{written, filled, Fills}
 use Rattle.slices.specs.Tables.{tab, rows}
-use Rattle.slices.proofs.Tables.{length-tab, tab-getD, rows-within}
+use Rattle.slices.proofs.Tables.{length-tab, getD-first, getD-tab, tab-getD, rows-within}
 
 pub written-none : (old : List ℕ) → old ≡ written [] old
 unfolding written
@@ -142,6 +142,19 @@ filling-more {m} {f} {old} {out} {i} v s h d = record { room = s .room; upto = o
 
 pub filling-all : {m : ℕ} {f : ℕ → ℕ} {old out : List ℕ} {i : ℕ} → Filling m f old out i → m ≤ i → out ≡ written (tab m f) old
 filling-all {m} {f} {old} {out} {i} s h = let e : i ≡ m = omega (arith, s .upto) in s .cells ∙ ap (λ (k : ℕ). written (tab k f) old) e
+
+-- a new table of n cells of which the first m are filled: its length, and those cells
+module _ (m n : ℕ) (f : ℕ → ℕ) (h : m ≤ n) where
+  pub length-filled : length (written (tab m f) (replicate n 0)) ≡ n
+  length-filled = length-written (tab m f) (replicate n 0) (omega (arith, h, length-tab m f, zeros)) ∙ zeros
+    where
+      zeros : length (replicate {A = ℕ} n 0) ≡ n
+      zeros = length-replicate {A = ℕ} n 0
+
+  pub getD-filled : (i : ℕ) → i < m → getD (written (tab m f) (replicate n 0)) i 0 ≡ f i
+  unfolding written
+  getD-filled i l =
+      getD-first (tab m f) (drop (length (tab m f)) (replicate n 0)) i (omega (arith, l, length-tab m f)) ∙ getD-tab m f i l
 
 -- a list, copied cell by cell
 pub filling-copied : (from : List ℕ) {old out : List ℕ} {i : ℕ} → Filling (length from) (λ k. getD from k 0) old out i → length from ≤ i → out ≡ written from old

@@ -8,23 +8,27 @@ use borrow.Author.Tests.{lt-ltb, le-ltb, eq-eqb, ne-eqb}
 use Rattle.slices.specs.declared.Part.the-variants.{Opening, Loop}
 use Rattle.slices.specs.Refusals.{sound, faultOf}
 use Rattle.slices.specs.Scans.{firstOutside}
-use Rattle.slices.specs.LassoLetters.{lettersFault}
+use Rattle.slices.specs.LassoLetters.{periodFault, lettersFault}
 
 module _ (s : ℕ) (u v : List ℕ) {i : ℕ} (stops : i ≡ firstOutside 0 s u 0 (length u)) where
   pub bad-prefix : i < length u → lettersFault s u v ≡ faultOf 9 Opening i
   unfolding lettersFault
   bad-prefix h = rw (← stops, lt-ltb _ _ h, zero-add i)
 
-  module _ (known : length u ≤ i) where
-    pub no-period : length v ≡ 0 → lettersFault s u v ≡ faultOf 8 Loop 0
-    unfolding lettersFault
-    no-period e = rw (← stops, le-ltb _ _ known, eq-eqb _ 0 e)
+  pub good-prefix : length u ≤ i → lettersFault s u v ≡ periodFault s v
+  unfolding lettersFault
+  good-prefix h = rw (← stops, le-ltb _ _ h)
 
-    module _ (some : length v ≡ 0 → ⊥) {j : ℕ} (ends : j ≡ firstOutside 0 s v 0 (length v)) where
-      pub bad-period : j < length v → lettersFault s u v ≡ faultOf 9 Loop j
-      unfolding lettersFault
-      bad-period h = rw (← stops, le-ltb _ _ known, ne-eqb _ 0 some, ← ends, lt-ltb _ _ h, zero-add j)
+module _ (s : ℕ) (v : List ℕ) where
+  pub no-period : length v ≡ 0 → periodFault s v ≡ faultOf 8 Loop 0
+  unfolding periodFault
+  no-period e = rw (eq-eqb _ 0 e)
 
-      pub good-lasso : length v ≤ j → lettersFault s u v ≡ sound
-      unfolding lettersFault
-      good-lasso h = rw (← stops, le-ltb _ _ known, ne-eqb _ 0 some, ← ends, le-ltb _ _ h)
+  module _ (some : length v ≡ 0 → ⊥) {j : ℕ} (ends : j ≡ firstOutside 0 s v 0 (length v)) where
+    pub bad-period : j < length v → periodFault s v ≡ faultOf 9 Loop j
+    unfolding periodFault
+    bad-period h = rw (ne-eqb _ 0 some, ← ends, lt-ltb _ _ h, zero-add j)
+
+    pub good-period : length v ≤ j → periodFault s v ≡ sound
+    unfolding periodFault
+    good-period h = rw (ne-eqb _ 0 some, ← ends, le-ltb _ _ h)

@@ -5,3 +5,4 @@ pub mod Extremes
 pub mod Scans
 pub mod Tests
 pub mod LassoLetters
+pub mod Capped

@@ -6,11 +6,12 @@ use Prim.Native.Nat.{ℕ, _+_, _≤_, _<_}
 use native.Mathlib.Omega.{arith}
 use lib.Dec.{ltb, leb}
 use lib.ListN.{getD}
-use borrow.Author.Tests.{le-ltb, lt-leb, ltb-false, leb-false}
+use borrow.Author.Tests.{lt-ltb, le-ltb, le-leb, lt-leb, ltb-false, leb-false}
 use Rattle.slices.specs.declared.Part.{Part}
-use Rattle.slices.specs.Refusals.{sound}
+use Rattle.slices.specs.Refusals.{sound, faultOf}
+use Rattle.slices.specs.Extremes.{least}
 use Rattle.slices.specs.Scans.{outside, firstOutside, scan}
-use Rattle.slices.proofs.Extremes.{least-before, least-none}
+use Rattle.slices.proofs.Extremes.{least-before, least-is, least-none}
 use Rattle.slices.proofs.Refusals.{when-sound}
 
 or-left : (s t : Bool) → s || t ≡ false → s ≡ false
@@ -27,6 +28,13 @@ inside low limit x e = (ltb-false x low (or-left (ltb x low) (leb limit x) e), l
 
 pub not-outside : (low limit x : ℕ) → low ≤ x → x < limit → outside low limit x ≡ false
 not-outside low limit x h l = rw (le-ltb x low h, lt-leb limit x l)
+
+from-limit : (low limit x : ℕ) → limit ≤ x → outside low limit x ≡ true
+from-limit low limit x h = by (ltb x low) refl
+  where
+    by : (t : Bool) → ltb x low ≡ t → outside low limit x ≡ true
+    by true e = rw e
+    by false e = rw (e, le-leb limit x h)
 
 -- a scan that stops at the end passed bytes that are all inside
 pub all-inside : (low limit : ℕ) (b : List ℕ) (at count : ℕ) → count ≤ firstOutside low limit b at count → (k : ℕ) → k < count → (low ≤ getD b (at + k) 0) × (getD b (at + k) 0 < limit)
@@ -49,3 +57,14 @@ module _ (number : ℕ) (part : Part) (low limit : ℕ) (b : List ℕ) (at count
     where
       none : (k : ℕ) → k < count → outside low limit (getD b (at + k) 0) ≡ true → ⊥
       none k l e = true≢false (sym e ∙ not-outside low limit (getD b (at + k) 0) (h k l .0) (h k l .1))
+
+  -- and it refuses the first that is not
+  pub scan-fault : (i : ℕ) → i < count → ((k : ℕ) → k < i → (low ≤ getD b (at + k) 0) × (getD b (at + k) 0 < limit)) → limit ≤ getD b (at + i) 0
+      → scan number part low limit b at count ≡ faultOf number part (at + i)
+  unfolding firstOutside
+  scan-fault i h before here = rw (stops, lt-ltb i count h)
+    where
+      stops : least count (λ i. outside low limit (getD b (at + i) 0)) ≡ i
+      stops =
+          least-is count _ i h (λ k l e. true≢false (sym e ∙ not-outside low limit (getD b (at + k) 0) (before k l .0) (before k l .1)))
+          (from-limit low limit (getD b (at + i) 0) here)

@@ -4,3 +4,4 @@ pub mod Tables
 pub mod Extremes
 pub mod Scans
 pub mod LassoLetters
+pub mod Capped

@@ -1,11 +1,14 @@
 // What all calls share, below the model: refusals, numbers of other widths, scans of a slice and the filling of one.
 mod copying; // copying.rt: copies of a slice
+mod counting; // counting.rt: a sum that stops at the largest number
 mod scanning; // scanning.rt: the first byte of a slice that is out of a range
 mod lassos; // lassos.rt: the letters of a lasso
 
 pub use copying::copy;
 pub use copying::narrow_copy;
+pub use counting::sum;
 pub use lassos::check_lasso;
+pub use lassos::check_period;
 pub use scanning::first_outside;
 pub use scanning::first_unknown;
 pub use scanning::is_outside;

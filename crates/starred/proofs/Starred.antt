@@ -11,7 +11,7 @@ use Rattle.fdfa.specs.Inclusion.{comparison, emptiness, countBelow}
 use Rattle.slices.specs.Refusals.{Result, given, refused}
 use Rattle.slices.specs.Tables.{tab, rows, sum}
 use Rattle.packed.specs.Layout.{decode, progressAt}
-use Rattle.slices.specs.LassoLetters.{lettersFault}
+use Rattle.slices.specs.LassoLetters.{periodFault, lettersFault}
 use Rattle.slices.specs.Scans.{firstOutside}
 use Rattle.packed.specs.Faults.{progressFault, headerFault, tablesFault, sheetFault}
 use Rattle.membership.specs.Verdict.{lassoFault, verdictOf}
@@ -89,7 +89,7 @@ starred =
     ∷ []
 
 pub holds : All starred
-unfolding least returnFrom returning firstLetter firstOfLength firstWord largest countBelow tab rows sum progressAt firstOutside progressFault headerFault tablesFault sheetFault lettersFault lassoFault
+unfolding least returnFrom returning firstLetter firstOfLength firstWord largest countBelow tab rows sum progressAt firstOutside progressFault headerFault tablesFault sheetFault periodFault lettersFault lassoFault
 holds = (
   (refl, refl, refl),
   (

@@ -4,6 +4,7 @@
 //! driver_lines random COUNT [SEED] [--driver PATH]        lines at random through one run of the driver (else FDFA_DRIVER is its path)
 //! driver_lines changes [--driver PATH]                    every change of one byte of a sheet's text, a show's and an automaton's, and long shows, in the same way
 //! driver_lines imports [--driver PATH]                    automata at random, imported, and verdicts on their sheets, in the same way
+//! driver_lines passes [--driver PATH]                     prefixes at random, cut into parts in every way, and verdicts on them, in the same way
 //! driver_lines rows [STDIN STDOUT]                        the rows to store, each with what is due; or both into two files
 //! driver_lines line SEED                                  one line at random, with what is due
 //! driver_lines answer [--wrong KIND]                      stands in for the driver, with a fault or without
@@ -12,13 +13,14 @@
 use outside::driver::calls::{answer, lines};
 use outside::driver::changes::changed_lines;
 use outside::driver::coverage::Coverage;
+use outside::driver::cuts::cut_lines;
 use outside::driver::damaged_answer::{damages, KINDS};
 use outside::driver::imported::imported_lines;
 use outside::driver::long_shows::long_lines;
 use outside::driver::random_line::Sent;
 use outside::driver::report::Report;
 use outside::driver::session::{hold, random_lines};
-use outside::driver::{rows, stand_in};
+use outside::driver::{rows, stand_in, wrong_pass};
 use outside::inclusion::Search;
 use std::collections::BTreeMap;
 use std::process::{Command, ExitCode};
@@ -35,6 +37,7 @@ fn main() -> ExitCode {
         ["random", rest @ ..] => random(rest),
         ["changes", rest @ ..] => fixed(rest, changed_lines().chain(long_lines()), "changes of one byte, long shows"),
         ["imports", rest @ ..] => fixed(rest, imported_lines(SEED), "automata and verdicts on their sheets"),
+        ["passes", rest @ ..] => fixed(rest, cut_lines(SEED), "prefixes cut in every way and verdicts on them"),
         ["rows"] => print_rows(),
         ["rows", input, output] => store_rows(input, output),
         ["line", seed] => number(seed).map(one_line),
@@ -42,7 +45,7 @@ fn main() -> ExitCode {
         ["answer", "--wrong", kind] => stand_in::run(Some(kind)),
         ["self-test"] => self_test(),
         _ => {
-            Err("usage: driver_lines stored STDIN STDOUT | random COUNT [SEED] [--driver PATH] | changes | imports | rows | self-test"
+            Err("usage: driver_lines stored STDIN STDOUT | random COUNT [SEED] [--driver PATH] | changes | imports | passes | rows | self-test"
                 .into())
         }
     };
@@ -196,7 +199,7 @@ fn find_wrong_drivers() -> Result<(), String> {
             }
         }
     }
-    for fault in KINDS.iter().chain(&stand_in::FAULTS) {
+    for fault in KINDS.iter().chain(&stand_in::FAULTS).chain(&wrong_pass::KINDS) {
         let found = match stand_in(&["--wrong", fault], true) {
             Ok(report) if KINDS.contains(fault) => report.mismatches == 1,
             Ok(report) => report.mismatches > 0,

@@ -1,7 +1,7 @@
 //! The table of calls, and what the driver prints for a line.
 
 use crate::driver::line::{byte_slices, print, NoCall, LONGEST_LINE};
-use crate::driver::{boolean, cursor, imports, inclusion, membership, notation, shows};
+use crate::driver::{boolean, cursor, imports, inclusion, membership, notation, pass, shows};
 use crate::inclusion::Search;
 use crate::random::Random;
 use crate::sheet::{Part, Refusal};
@@ -141,6 +141,13 @@ pub const CALLS: &[Call] = &[
         random: shows::random_write_show,
         outcomes: &[&["filled", "refused 9 opening", "refused 8 loop", "refused 9 loop", "refused 21 out"]],
         lent: OUT,
+    },
+    Call {
+        name: "pass",
+        answer: pass::pass,
+        random: pass::random_pass,
+        outcomes: &[&["reached", "unknown"], FIRST],
+        lent: &[],
     },
     Call {
         name: "import",

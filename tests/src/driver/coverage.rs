@@ -13,6 +13,9 @@ const JUST_ENOUGH: &str = ", just enough room";
 const ONE_TOO_FEW: &str = ", one cell too few";
 /// Added to an outcome where the lasso found takes the sheets to states that are all above 0 and no two alike.
 const APART: &str = ", waits and ends above 0, no two alike";
+/// Added where a pass reached a state above 0, or met a letter out of range in a later part than the first.
+const ABOVE_0: &str = ", above 0";
+const LATER_PART: &str = ", in a later part";
 
 #[derive(Default)]
 pub struct Coverage {
@@ -33,7 +36,7 @@ impl Coverage {
                 Some(outcome) => {
                     self.count(call.name, outcome);
                     let room = room(call, &due).filter(|_| needs_room(outcome));
-                    for more in room.into_iter().chain(apart(&due)) {
+                    for more in room.into_iter().chain(apart(&due)).chain(passed(line, &due)) {
                         self.count(call.name, &format!("{outcome}{more}"));
                     }
                 }
@@ -57,9 +60,13 @@ impl Coverage {
                     let room = if outcome.starts_with("refused") { ONE_TOO_FEW } else { JUST_ENOUGH };
                     due.push((call.name, format!("{outcome}{room}")));
                 }
-                if ["missing", "found"].contains(&outcome) {
-                    due.push((call.name, format!("{outcome}{APART}")));
-                }
+                let more = match outcome {
+                    "missing" | "found" => APART,
+                    "reached" => ABOVE_0,
+                    "unknown" => LATER_PART,
+                    _ => continue,
+                };
+                due.push((call.name, format!("{outcome}{more}")));
             }
         }
         let met = |key: &(&'static str, String)| self.counts.get(key).copied().unwrap_or(0);
@@ -108,6 +115,18 @@ fn apart(due: &str) -> Option<&'static str> {
     };
     let with_zero: BTreeSet<&str> = standings.iter().copied().chain(["0"]).collect();
     (with_zero.len() == standings.len() + 1).then_some(APART)
+}
+
+/// Whether a pass reached a state above 0, or met a letter out of range in a later part than the first.
+fn passed(line: &[u8], due: &str) -> Option<&'static str> {
+    match due.split_once(' ')? {
+        ("reached", state) => (state != "0").then_some(ABOVE_0),
+        ("unknown", position) => {
+            let first = String::from_utf8_lossy(line.split(|&byte| byte == b' ').nth(2)?);
+            (position.parse::<usize>().ok()? >= length(&first)).then_some(LATER_PART)
+        }
+        _ => None,
+    }
 }
 
 /// How many cells a printed slice has.

@@ -1,6 +1,6 @@
 //! check and verdict.
 
-use crate::case::word;
+use crate::case::{letters_of, put_unknown, word};
 use crate::driver::calls::refused;
 use crate::driver::line::{byte_slices, Cell, NoCall};
 use crate::driver::random_line::spelled;
@@ -10,7 +10,7 @@ use crate::inclusion::Search;
 use crate::mix::of_sizes;
 use crate::printed::verdict_words;
 use crate::random::Random;
-use crate::sheet::{Part, Sheet, MOST};
+use crate::sheet::{Part, Sheet};
 
 pub fn check(words: &[&[u8]], _: &mut Search) -> Result<String, NoCall> {
     let [sheet] = byte_slices(words)?;
@@ -35,18 +35,15 @@ pub fn random_check(random: &mut Random, _: &mut Search) -> String {
 
 pub fn random_verdict(random: &mut Random, _: &mut Search) -> String {
     let sheet = if random.once_in(6) { winding(random).pack() } else { sheet(random) };
-    let letters = sheet.first().map_or(1, |&letters| (letters as usize).clamp(1, MOST));
+    let letters = letters_of(&sheet);
     let mut prefix = word(random, letters);
     let mut period = if random.once_in(10) { Vec::new() } else { word(random, letters) };
     for word in [&mut prefix, &mut period] {
         if random.once_in(400) {
             word.resize(u8::LONGEST, 0);
         }
-        if !word.is_empty() && random.once_in(10) {
-            for _ in 0..random.between(1, 3) {
-                let at = random.below(word.len());
-                word[at] = if random.once_in(2) { letters as u8 } else { random.between(letters, 255) as u8 };
-            }
+        if random.once_in(10) {
+            put_unknown(random, word, letters);
         }
     }
     [sheet, prefix, period].map(|slice| spelled(random, &slice)).join(" ")

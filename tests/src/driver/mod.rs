@@ -1,16 +1,18 @@
 //! The program `driver` held to the independent implementation: one line in, one line out.
 //!
 //! `line` has the words of a line; `calls` the table of calls and what a line prints; `membership`, `boolean`, `inclusion`, `cursor`,
-//! `notation`, `shows` and `imports` answer the calls of their subject and make lines for them at random. `random_line` mixes those with
-//! damaged lines and comments, `changes` has every change of one byte of five texts, `long_shows` shows at the programs' bounds,
-//! `imported` automata with verdicts on their sheets, `session` sends lines through one run of the driver, `report` compares what it
-//! prints, `coverage` counts the outcomes, and `rows` has the lines that are stored.
+//! `notation`, `shows`, `pass` and `imports` answer the calls of their subject and make lines for them at random. `random_line` mixes those
+//! with damaged lines and comments, `changes` has every change of one byte of five texts, `long_shows` shows at the programs' bounds,
+//! `imported` automata with verdicts on their sheets, `cuts` prefixes in parts with verdicts on them, `session` sends lines through one run
+//! of the driver, `report` compares what it prints, `coverage` counts the outcomes, and `rows` has the lines that are stored. `stand_in` is
+//! a driver with a fault: `damaged_answer` has those of one field, `wrong_pass` those of a pass.
 
 pub mod boolean;
 pub mod calls;
 pub mod changes;
 pub mod coverage;
 pub mod cursor;
+pub mod cuts;
 pub mod damaged_answer;
 pub mod damaged_line;
 pub mod imported;
@@ -20,6 +22,7 @@ pub mod line;
 pub mod long_shows;
 pub mod membership;
 pub mod notation;
+pub mod pass;
 pub mod random_automaton;
 pub mod random_line;
 pub mod random_sheets;
@@ -30,3 +33,4 @@ pub mod rows;
 pub mod session;
 pub mod shows;
 pub mod stand_in;
+pub mod wrong_pass;

@@ -1,5 +1,6 @@
 //! Lassos at random and their texts, with a fault in every kind of place.
 
+use crate::case::put_unknown;
 use crate::driver::random_text::{ended, lines, split, with_any_fault, with_faults, with_line, NUMBERS};
 use crate::random::Random;
 use crate::sheet::MOST;
@@ -26,11 +27,8 @@ pub fn faulty_lasso(random: &mut Random, letters: usize) -> (Vec<u8>, Vec<u8>) {
         period.clear();
     }
     for part in [&mut prefix, &mut period] {
-        if !part.is_empty() && random.once_in(2) {
-            for _ in 0..random.between(1, 3) {
-                let (at, any) = (random.below(part.len()), random.between(letters, 255));
-                part[at] = random.pick(&[letters, any, 255]) as u8;
-            }
+        if random.once_in(2) {
+            put_unknown(random, part, letters);
         }
     }
     (prefix, period)

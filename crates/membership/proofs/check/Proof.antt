@@ -1,80 +1,100 @@
--- `membership::check` meets its contract: the sheet, then the lasso. Assumes nothing.
-use mathlib.Core.Path.{_≡_, ap, sym, _∙_}
-use mathlib.Core.List.{List}
-use Prim.Native.Nat.{ℕ}
+-- `membership::check` meets its contract: the prefix in one pass, then the period. Assumes nothing.
+use mathlib.Core.Path.{_≡_, ap, sym, subst, _∙_}
+use Prim.Native.Nat.{_≤_}
+use native.Mathlib.Omega.{arith}
 use denote.Ref.{now}
+use lib.ListN.{length}
 use borrow.Author.Needs.{needs}
-use Rattle.slices.specs.declared.Part.the-variants.{First}
-use Rattle.slices.specs.Refusals.{Fault, sound, given}
+use Rattle.slices.specs.Refusals.{given, refused}
 use Rattle.slices.specs.LassoLetters.{lettersFault, lettersSay}
-use Rattle.slices.proofs.Refusals.{passed, failed, refuses, gives, was-given, was-refused}
-use Rattle.packed.specs.declared.Sizes.{Sizes}
-use Rattle.packed.specs.Layout.{letterCount}
-use Rattle.packed.specs.Faults.{sheetFault, sizesOf, saysOf}
-use Rattle.membership.specs.Verdict.{lassoFault}
+use Rattle.slices.proofs.Refusals.{refuses, gives}
+use Rattle.fdfa.specs.Words.{Over}
+use Rattle.fdfa.specs.Family.{walk}
+use Rattle.fdfa.specs.Pass.{Pass, start, passOver}
+use Rattle.fdfa.proofs.Letters.{unknown-fault, known-fault}
+use Rattle.packed.specs.Columns.{columnStep}
+use Rattle.prefix_pass.specs.Parts.{passSays, told}
+use Rattle.prefix_pass.specs.Steps.{Within}
+use Rattle.prefix_pass.proofs.Laws.{reached-known, unknown-here}
 use Rattle.membership.proofs.check.Statement.{statement}
 use Rattle.membership.proofs.check.Tie as tie
 
-abbrev sheet : tie.After-check → List ℕ
-sheet c = now (c .before .before .before .before .args .sheet)
+abbrev entry : tie.After-pass-on → tie.Start
+entry c = c .before .before .before .before .before
 
--- the sheet is good, and its sizes are known
-sized : (c : tie.After-validity2) → let b = sheet (c .before .before) in (sheetFault First b ≡ sound) × (c .validity2 .given .0 .0 ≡ sizesOf b)
-sized c = was-given _ _ (sym (ap saysOf (c .validity2 .given .1)) ∙ c .before .before .check .ensures)
+short : (c : tie.After-pass-on) → length (now (entry c .args .prefix)) ≤ 18446744073709551615
+short c = omega (arith, entry c .good)
 
--- the lasso is judged by the sheet's letters
-judged : (b u v : List ℕ) {s : ℕ} {x : Fault} → sheetFault First b ≡ sound → s ≡ letterCount b → x ≡ lettersFault s u v → lassoFault b u v ≡ x
-unfolding lassoFault
-judged b u v good e d = passed _ good ∙ (ap (λ (n : ℕ). lettersFault n u v) (sym e) ∙ sym d)
+-- the pass from its start
+pass : (c : tie.After-pass-on) → let s = entry c .args in passSays (c .pass-on .result) ≡ told (passOver (s .letters) (columnStep (now (s .table))) start (now (s .prefix)))
+pass c =
+    let s = entry c .args in
+    c .pass-on .ensures ∙ ap (λ (p : Pass). told (passOver (s .letters) (columnStep (now (s .table))) p (now (s .prefix)))) (c .before .start .ensures)
 
-says : (c : tie.After-check-lasso) → let z = c .before .before in let s = z .before .before .before .before .before .before in
-    lassoFault (now (s .args .sheet)) (now (s .args .prefix)) (now (s .args .period)) ≡ lettersSay (c .check-lasso .result)
-says c =
-    let z = c .before .before in
-    judged _ _ _ (sized z .0) (ap (λ (x : Sizes). x .letters) (sized z .1)) (c .check-lasso .ensures)
+-- every letter of the prefix is known, and the state is the one after it
+known : (c : tie.After-held2) → let s = entry (c .before .before) .args in
+    Over (s .letters) (now (s .prefix)) × (c .held2 .given .0 .0 ≡ walk (columnStep (now (s .table))) 0 (now (s .prefix)))
+known c =
+    let p = c .before .before in
+    let k = reached-known _ _ _ (sym (pass p) ∙ ap passSays (c .held2 .given .1)) in
+    (k .0, k .1)
 
-check-requires : tie.Need-check-requires
-check-requires c κs = search needs
+-- the period is judged
+judged : (c : tie.After-check-period) → let s = entry (c .before .before .before .before) .args in
+    lettersFault (s .letters) (now (s .prefix)) (now (s .period)) ≡ lettersSay (c .check-period .result)
+judged c = known-fault _ _ _ (known (c .before .before) .0) ∙ sym (c .check-period .ensures)
 
-enum-known-validity : tie.Need-enum-known-validity
-enum-known-validity c = search needs
+start-requires : tie.Need-start-requires
+start-requires c κs = search needs
 
-enum-known-validity-2 : tie.Need-enum-known-validity-2
-enum-known-validity-2 c = search needs
+pass-on-requires : tie.Need-pass-on-requires
+pass-on-requires c κs =
+    (c .before .before .before .before .pre, subst (Within 32) (sym (c .start .ensures)) (omega arith))
 
-check-lasso-requires : tie.Need-check-lasso-requires
-check-lasso-requires c κs = search needs
+enum-known-held : tie.Need-enum-known-held
+enum-known-held c = search needs
 
-enum-known-letters : tie.Need-enum-known-letters
-enum-known-letters c = search needs
+refuse-requires : tie.Need-refuse-requires
+refuse-requires c κs = search needs
+
+enum-known-held-2 : tie.Need-enum-known-held-2
+enum-known-held-2 c = search needs
+
+check-period-requires : tie.Need-check-period-requires
+check-period-requires c κs = search needs
+
+enum-known-judged : tie.Need-enum-known-judged
+enum-known-judged c = search needs
 
 enum-told : tie.Need-enum-told
 enum-told c = search needs
 
 returns : tie.Need-returns
-unfolding lassoFault
 returns c =
-    let d = c .before in
-    let b = sheet (d .before .before) in
-    refuses (sizesOf b) (failed _ (was-refused (sheetFault First b) (sizesOf b) (sym (ap saysOf (d .validity .given .1)) ∙ d .before .before .check .ensures)))
+    let k = c .before .before in
+    let p = k .before .before in
+    ap refused (c .refuse .ensures)
+    ∙ refuses _ (unknown-fault _ _ _ _ (unknown-here _ _ _ (short p) (sym (pass p) ∙ ap passSays (k .held .given .1))))
 
 returns-2 : tie.Need-returns-2
-returns-2 c = let l = c .before in refuses _ (says (l .before .before) ∙ ap lettersSay (l .letters .given .1))
+returns-2 c = let j = c .before in refuses _ (judged (j .before .before) ∙ ap lettersSay (j .judged .given .1))
 
 returns-3 : tie.Need-returns-3
 returns-3 c =
-    let l = c .before .before in
-    ap given (sized (l .before .before) .1) ∙ gives _ (says l ∙ ap lettersSay (c .enum-told .given .1))
+    let p = c .before .before in
+    ap given (known (p .before .before) .1) ∙ gives _ (judged p ∙ ap lettersSay (c .enum-told .given .1))
 
 pub check-spec : {M : Type 1} → statement M
 check-spec =
     tie.close
     (tie.spec
-    check-requires
-    enum-known-validity
-    enum-known-validity-2
-    check-lasso-requires
-    enum-known-letters
+    start-requires
+    pass-on-requires
+    enum-known-held
+    refuse-requires
+    enum-known-held-2
+    check-period-requires
+    enum-known-judged
     enum-told
     returns
     returns-2

@@ -6,6 +6,7 @@ mod forms;
 mod import_edits;
 mod import_faults;
 mod imports;
+mod passes;
 mod refusals;
 mod searches;
 mod shows;
@@ -39,6 +40,7 @@ pub fn rows() -> Vec<Row> {
     rows.extend(imports::rows());
     rows.extend(import_edits::rows());
     rows.extend(import_faults::rows());
+    rows.extend(passes::rows());
     rows
 }
 
@@ -118,6 +120,7 @@ fn plain(letters: usize, states: usize, size: usize, mark: u8) -> String {
 mod tests {
     use super::*;
     use crate::driver::coverage::Coverage;
+    use crate::driver::wrong_pass;
 
     #[test]
     fn the_independent_implementation_prints_what_is_stated() {
@@ -136,6 +139,15 @@ mod tests {
             coverage.add(row.line.as_bytes(), &answer(row.line.as_bytes(), &mut search));
         }
         assert_eq!(coverage.faults(1).join("\n"), "");
+    }
+
+    #[test]
+    fn every_wrong_pass_is_found() {
+        let mut search = Search::default();
+        for kind in wrong_pass::KINDS {
+            let found = |row: &Row| wrong_pass::answer(kind, row.line.as_bytes(), &mut search) != row.stated.as_bytes();
+            assert!(rows().iter().any(found), "{kind}");
+        }
     }
 
     #[test]

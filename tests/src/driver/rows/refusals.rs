@@ -22,7 +22,7 @@ const FAULTS: [(&str, &str, &str); 14] = [
 ];
 
 /// The calls that take a packed sheet: where it stands, the part that is refused, and the lent slices, which are not changed.
-const SHEET_CALLS: [(&str, &str, &str); 11] = [
+const SHEET_CALLS: [(&str, &str, &str); 12] = [
     ("check ?", "first", ""),
     ("verdict ? 9 -", "first", ""),
     ("complement ? 9*7", "first", " | 9*7"),
@@ -34,6 +34,7 @@ const SHEET_CALLS: [(&str, &str, &str); 11] = [
     ("compare C ? 2*7 3*8 1*9", "second", " | 2*7 3*8 9"),
     ("emptiness ? 2*7 3*8 1*9", "first", " | 2*7 3*8 9"),
     ("write ? 9*7", "first", " | 9*7"),
+    ("pass ? 0,9 - 255", "first", ""),
 ];
 
 pub fn rows() -> Vec<Row> {

@@ -7,10 +7,13 @@ use Rattle.forms.proofs.arguments.read_all.Statement.{statement}
 use Rattle.forms.proofs.arguments.read_all.Tie as tie
 
 abbrev Inv-loop : tie.InvT-loop
-Inv-loop line inputs₀ x₀ y₀ w₀ kinds given₀ k₀ inputs x y w given k = (length inputs ≡ length inputs₀) × (length x ≡ length x₀) × (length y ≡ length y₀) × (length w ≡ length w₀)
+Inv-loop line inputs₀ x₀ y₀ w₀ kinds words given₀ k₀ inputs x y w given k = (length inputs ≡ length inputs₀) × (length x ≡ length x₀) × (length y ≡ length y₀) × (length w ≡ length w₀)
 
 abbrev μ-loop : tie.MeasureT-loop
-μ-loop line inputs₀ x₀ y₀ w₀ kinds given₀ k₀ inputs x y w given k = 8 - k
+μ-loop line inputs₀ x₀ y₀ w₀ kinds words given₀ k₀ inputs x y w given k = 9 - k
+
+pieces-requires : tie.Need-pieces-requires Inv-loop μ-loop
+pieces-requires c κs = search needs
 
 nothing-requires : tie.Need-nothing-requires Inv-loop μ-loop
 nothing-requires c κs = search needs
@@ -18,8 +21,14 @@ nothing-requires c κs = search needs
 loop-holds : tie.Need-loop-holds Inv-loop μ-loop
 loop-holds c = search needs
 
-array-read-read : tie.Need-array-read-read Inv-loop μ-loop
-array-read-read c = search needs
+array-read-due : tie.Need-array-read-due Inv-loop μ-loop
+array-read-due c = search needs
+
+add-due : tie.Need-add-due Inv-loop μ-loop
+add-due c = search needs
+
+due-requires : tie.Need-due-requires Inv-loop μ-loop
+due-requires c κs = search needs
 
 add-piece : tie.Need-add-piece Inv-loop μ-loop
 add-piece c = search needs
@@ -32,9 +41,6 @@ end-requires c κs = search needs
 
 read-requires : tie.Need-read-requires Inv-loop μ-loop
 read-requires c κs = search needs
-
-array-read-with : tie.Need-array-read-with Inv-loop μ-loop
-array-read-with c = search needs
 
 with-requires : tie.Need-with-requires Inv-loop μ-loop
 with-requires c κs = search needs
@@ -69,14 +75,16 @@ read-all-spec =
     (tie.spec
     Inv-loop
     μ-loop
+    pieces-requires
     nothing-requires
     loop-holds
-    array-read-read
+    array-read-due
+    add-due
+    due-requires
     add-piece
     piece-requires
     end-requires
     read-requires
-    array-read-with
     with-requires
     add-k
     loop-less

@@ -10,7 +10,7 @@ abbrev Inv-loop : tie.InvT-loop
 Inv-loop out₀ n x y w kinds last₀ to₀ k₀ out last to k = length out ≡ length out₀
 
 abbrev μ-loop : tie.MeasureT-loop
-μ-loop out₀ n x y w kinds last₀ to₀ k₀ out last to k = 8 - k
+μ-loop out₀ n x y w kinds last₀ to₀ k₀ out last to k = 9 - k
 
 loop-holds : tie.Need-loop-holds Inv-loop μ-loop
 loop-holds c = search needs

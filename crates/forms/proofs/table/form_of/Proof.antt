@@ -5,10 +5,10 @@ use Rattle.forms.proofs.table.form_of.Statement.{statement}
 use Rattle.forms.proofs.table.form_of.Tie as tie
 
 abbrev Inv-loop : tie.InvT-loop
-Inv-loop forms call form kinds₀ k₀ kinds k = k ≤ 8
+Inv-loop forms call form kinds₀ k₀ kinds k = k ≤ 9
 
 abbrev μ-loop : tie.MeasureT-loop
-μ-loop forms call form kinds₀ k₀ kinds k = 8 - k
+μ-loop forms call form kinds₀ k₀ kinds k = 9 - k
 
 piece-requires : tie.Need-piece-requires Inv-loop μ-loop
 piece-requires c κs = search needs

@@ -4,11 +4,12 @@ use Prim.Native.Nat.{ℕ, _+_, _-_, _≤_}
 use native.Mathlib.Omega.{arith}
 use denote.Ref.{now}
 use lib.ListN.{length}
+use Rattle.slices.specs.Capped.{capped}
 use Rattle.slices.specs.Tables.{rows}
+use Rattle.slices.proofs.Capped.{capped-is, capped-sum}
 use Rattle.numbers.specs.Digits.{digitsOf}
 use Rattle.lasso_text.specs.Text.{letterLine, letterLines}
-use Rattle.lasso_text.specs.Writing.{capped}
-use Rattle.lasso_text.proofs.Measures.{capped-is, capped-sum, no-lines, lines-next, line-long}
+use Rattle.lasso_text.proofs.Measures.{no-lines, lines-next, line-long}
 use borrow.Author.Needs.{needs}
 use Rattle.lasso_text.proofs.writing.measure.Statement.{statement}
 use Rattle.lasso_text.proofs.writing.measure.Tie as tie

@@ -6,15 +6,17 @@ use native.Mathlib.Omega.{arith}
 use denote.Ref.{now}
 use lib.ListN.{length}
 use borrow.Author.Tests.{lt-ltb, le-ltb}
+use Rattle.slices.specs.Capped.{capped}
 use Rattle.slices.specs.declared.Part.the-variants.{Out}
 use Rattle.slices.specs.Refusals.{sound, fault}
 use Rattle.slices.specs.LassoLetters.{lettersFault, lettersSay}
+use Rattle.slices.proofs.Capped.{capped-sum, capped-le, capped-below}
 use Rattle.slices.proofs.Filling.{fill-refused, fill-given}
 use Rattle.slices.proofs.Refusals.{when-fails, when-passes, passed, failed}
 use Rattle.numbers.proofs.Stores.{stored-written}
 use Rattle.lasso_text.specs.Text.{prefixName, periodName, letterLines, lassoText}
-use Rattle.lasso_text.specs.Writing.{capped, writeFault}
-use Rattle.lasso_text.proofs.Measures.{capped-sum, capped-le, capped-below, text-long}
+use Rattle.lasso_text.specs.Writing.{writeFault}
+use Rattle.lasso_text.proofs.Measures.{text-long}
 use borrow.Author.Needs.{needs}
 use Rattle.lasso_text.proofs.writing.write.Statement.{statement}
 use Rattle.lasso_text.proofs.writing.write.Tie as tie

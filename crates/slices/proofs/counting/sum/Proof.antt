@@ -1,11 +1,11 @@
--- `lasso_text::writing::sum` meets its contract. Assumes nothing.
+-- `slices::counting::sum` meets its contract. Assumes nothing.
 use mathlib.Core.Path.{sym}
 use Prim.Native.Nat.{_+_}
 use native.Mathlib.Omega.{arith}
-use Rattle.lasso_text.proofs.Measures.{capped-is, capped-most}
+use Rattle.slices.proofs.Capped.{capped-is, capped-most}
 use borrow.Author.Needs.{needs}
-use Rattle.lasso_text.proofs.writing.sum.Statement.{statement}
-use Rattle.lasso_text.proofs.writing.sum.Tie as tie
+use Rattle.slices.proofs.counting.sum.Statement.{statement}
+use Rattle.slices.proofs.counting.sum.Tie as tie
 
 sub-if1 : tie.Need-sub-if1
 sub-if1 c = search needs

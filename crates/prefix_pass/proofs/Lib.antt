@@ -1,0 +1,4 @@
+mod Telling
+pub mod Leading
+mod Doubled
+pub mod Laws
