@@ -6,7 +6,8 @@ use Prim.Native.Nat.{ℕ, _+_, _-_, _≤_, _<_}
 use native.Mathlib.Omega.{arith}
 use native.Mathlib.Decide.{decLt}
 use lib.ListN.{length, take, drop, length-append, length-drop}
-use lib.Seq.{length-take-le, take-all, take-at, drop-at}
+use lib.Seq.{length-take-le, take-at, drop-at}
+use Rattle.slices.proofs.Filling.{rest-lent}
 use Rattle.fdfa.specs.Family.{Fdfa}
 use Rattle.search.specs.Words.{Word, _⊏_, _⊑_, same, less, run}
 use Rattle.search.specs.Queue.{stateAt}
@@ -18,7 +19,7 @@ use Rattle.lasso_search.proofs.Joined.{aimAt, ending, ending-first, no-
 -- the cells behind the first n, as they are lent and come back
 module _ (n : ℕ) (work : List ℕ) (h : n ≤ length work) where
   pub tail-is : take (length work - n) (drop n work) ≡ drop n work
-  tail-is = take-all (length work - n) (drop n work) (rw (length-drop n work) (omega arith))
+  tail-is = rest-lent work n
 
   pub tail-long : length (take (length work - n) (drop n work)) ≡ length work - n
   tail-long = ap length tail-is ∙ length-drop n work

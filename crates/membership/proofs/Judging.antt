@@ -60,7 +60,7 @@ place-was e = ap place e
     place sound = 0
     place (fault r) = r .place
 
--- of a valid sheet, and a prefix that has fewer letters than a number can tell
+-- of a valid sheet, and a prefix that has no more letters than a number can tell
 module _ (b u v : List ℕ) (valid : Valid b) (short : length u ≤ 18446744073709551615) where
   letters : {f : Fault} → lettersFault (letterCount b) u v ≡ f → lassoFault b u v ≡ f
   unfolding lassoFault

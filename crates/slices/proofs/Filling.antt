@@ -14,6 +14,10 @@ use Rattle.slices.specs.Filling.{written, filled, Fills}
 use Rattle.slices.specs.Tables.{tab, rows}
 use Rattle.slices.proofs.Tables.{length-tab, getD-first, getD-tab, tab-getD, rows-within}
 
+-- the rest of a slice from n on, as it is lent
+pub rest-lent : (w : List ℕ) (n : ℕ) → take (length w - n) (drop n w) ≡ drop n w
+rest-lent w n = take-all (length w - n) (drop n w) (omega (arith, length-drop n w))
+
 pub written-none : (old : List ℕ) → old ≡ written [] old
 unfolding written
 written-none [] = refl

@@ -4,9 +4,9 @@ use mathlib.Core.List.{List}
 use Prim.Native.Nat.{ℕ, _-_}
 use native.Mathlib.Omega.{arith}
 use denote.Ref.{now}
-use lib.ListN.{length, take, drop, take-append-drop, length-drop}
-use lib.Seq.{take-all}
+use lib.ListN.{length, take, drop, take-append-drop}
 use Rattle.slices.specs.Capped.{capped}
+use Rattle.slices.proofs.Filling.{rest-lent}
 use Rattle.fdfa.specs.Pass.{Pass, reached, passOver}
 use Rattle.fdfa.proofs.Pass.{pass-append}
 use Rattle.packed.specs.Columns.{columnStep}
@@ -16,15 +16,11 @@ use borrow.Author.Needs.{needs}
 use Rattle.prefix_pass.proofs.pass_long.Statement.{statement}
 use Rattle.prefix_pass.proofs.pass_long.Tie as tie
 
--- the rest that is lent
-rest : (w : List ℕ) (n : ℕ) → take (length w - n) (drop n w) ≡ drop n w
-rest w n = take-all (length w - n) (drop n w) (omega (arith, length-drop n w))
-
 -- from where the pairs end, the pass over the rest is the pass over the whole
 whole : (s : ℕ) (f : ℕ → ℕ → ℕ) (p : Pass) (w : List ℕ) (i : ℕ) {q n m : ℕ} → passOver s f p (take i w) ≡ reached q n → m ≡ capped n
     → told (passOver s f (reached q m) (take (length w - i) (drop i w))) ≡ told (passOver s f p w)
 whole s f p w i {q} {n} {m} here is =
-    (λ k. told (passOver s f (reached q (is k)) (rest w i k)))
+    (λ k. told (passOver s f (reached q (is k)) (rest-lent w i k)))
     ∙ (told-on s f (reached q n) (drop i w)
     ∙ ap told (ap (λ (x : Pass). passOver s f x (drop i w)) (sym here) ∙ (sym (pass-append s f p (take i w) (drop i w)) ∙ ap (passOver s f p) (take-append-drop i w))))
 

@@ -1,12 +1,12 @@
 -- `boolean::flipping::flip_part` meets its contract: the next states, then the marks. Assumes nothing.
 use mathlib.Core.Path.{_≡_, ap, sym, _∙_}
 use mathlib.Core.List.{List}
-use Prim.Native.Nat.{ℕ, _-_, _≤_}
+use Prim.Native.Nat.{ℕ, _-_}
 use native.Mathlib.Omega.{arith}
 use denote.Ref.{now}
 use lib.ListN.{length, take, drop, length-drop}
-use lib.Seq.{length-take-le, take-all}
-use Rattle.slices.proofs.Filling.{Begun, begun-first, begun-more}
+use lib.Seq.{length-take-le}
+use Rattle.slices.proofs.Filling.{rest-lent, Begun, begun-first, begun-more}
 use Rattle.slices.specs.Filling.{written}
 use Rattle.slices.specs.Tables.{tab}
 use Rattle.slices.proofs.Tables.{length-tab}
@@ -25,13 +25,10 @@ begun : (c : tie.After-copy) → let s = start c .args in Begun (take (s .count)
 begun c = begun-first (c .copy .ensures) (omega (arith, first-length (start c), start c .pre .0, start c .pre .1))
 
 -- the marks, as they are lent, are what stands behind the next states
-marks-are : (part : List ℕ) (count : ℕ) → count ≤ length part → take (length part - count) (drop count part) ≡ drop count part
-marks-are part count h = take-all (length part - count) (drop count part) (omega (arith, length-drop count part))
-
-flipped-are : (part : List ℕ) (count : ℕ) → count ≤ length part
+flipped-are : (part : List ℕ) (count : ℕ)
     → tab (length (take (length part - count) (drop count part))) (flippedMark (take (length part - count) (drop count part))) ≡ tab (length part - count) (flippedMark (drop count part))
-flipped-are part count h =
-    ap (λ (l : List ℕ). tab (length l) (flippedMark l)) (marks-are part count h) ∙ ap (λ (k : ℕ). tab k (flippedMark (drop count part))) (length-drop count part)
+flipped-are part count =
+    ap (λ (l : List ℕ). tab (length l) (flippedMark l)) (rest-lent part count) ∙ ap (λ (k : ℕ). tab k (flippedMark (drop count part))) (length-drop count part)
 
 slice-aggregate-copy : tie.Need-slice-aggregate-copy
 slice-aggregate-copy c = sym (first-length (c .before .before .before))
@@ -71,7 +68,7 @@ returns c =
     let k = length (now (s .part)) - s .count in
     let o = d .copy .last .1 .0 in
     begun-more (tab k marks) _ (begun d) (first-length (start d)) (omega (arith, length-tab k marks, start d .pre .0, start d .pre .1))
-    (c .before .before .flip-marks .ensures ∙ ap (λ (l : List ℕ). written l (take (length o - s .count) (drop (s .count) o))) (flipped-are (now (s .part)) (s .count) (start d .pre .0))) .cells
+    (c .before .before .flip-marks .ensures ∙ ap (λ (l : List ℕ). written l (take (length o - s .count) (drop (s .count) o))) (flipped-are (now (s .part)) (s .count))) .cells
 
 pub flip-part-spec : {M : Type 1} → statement M
 flip-part-spec =

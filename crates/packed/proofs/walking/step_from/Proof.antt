@@ -1,20 +1,21 @@
 -- `packed::walking::step_from` meets its contract: the column is lent. Assumes nothing.
-use mathlib.Core.Path.{_≡_, _∙_}
+use mathlib.Core.Path.{_≡_, ap, _∙_}
 use mathlib.Core.List.{List}
-use Prim.Native.Nat.{ℕ, _+_, _-_, _<_}
+use Prim.Native.Nat.{ℕ, _+_, _-_}
 use native.Mathlib.Omega.{arith}
 use denote.Ref.{now}
 use lib.ListN.{length, getD, take, drop, length-drop}
-use lib.Seq.{length-take-le, getD-take, getD-drop}
+use lib.Seq.{getD-drop}
+use Rattle.slices.proofs.Filling.{rest-lent}
 use borrow.Author.Needs.{needs}
 use Rattle.packed.proofs.walking.step_from.Statement.{statement}
 use Rattle.packed.proofs.walking.step_from.Tie as tie
 
 part-length : (t : List ℕ) (n : ℕ) → length (take (length t - n) (drop n t)) ≡ length t - n
-part-length t n = length-take-le (length t - n) (drop n t) (omega (arith, length-drop n t))
+part-length t n = ap length (rest-lent t n) ∙ length-drop n t
 
-part-cell : (t : List ℕ) (n q : ℕ) → n + q < length t → getD (take (length t - n) (drop n t)) q 0 ≡ getD t (n + q) 0
-part-cell t n q h = getD-take (length t - n) (drop n t) q 0 (omega arith) ∙ getD-drop n t q 0
+part-cell : (t : List ℕ) (n q : ℕ) → getD (take (length t - n) (drop n t)) q 0 ≡ getD t (n + q) 0
+part-cell t n q = ap (λ (l : List ℕ). getD l q 0) (rest-lent t n) ∙ getD-drop n t q 0
 
 sub-read : tie.Need-sub-read
 sub-read c = omega (arith, c .before .pre)
@@ -33,7 +34,7 @@ read-requires c κs =
 returns : tie.Need-returns
 returns c =
     let s = c .before .before .before in
-    c .read .ensures ∙ part-cell (now (s .args .table)) (s .args .from) (s .args .state) (s .pre)
+    c .read .ensures ∙ part-cell (now (s .args .table)) (s .args .from) (s .args .state)
 
 pub step-from-spec : {M : Type 1} → statement M
 step-from-spec = tie.close (tie.spec sub-read part-read-start part-read-end read-requires returns)
