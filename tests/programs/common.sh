@@ -56,6 +56,17 @@ uniform() {
     printf "$(cat "$top/octal")"
 }
 
+# seconds_of S: so many seconds as 16-bit numbers, low byte first: 999, 1, and others.
+seconds_of() {
+    local text='' a cell octal
+    for ((a = 0; a < $1; a++)); do
+        cell=$((a == 1 ? 1 : 999 - 31 * a))
+        printf -v octal '\\%03o\\%03o' $((cell % 256)) $((cell / 256))
+        text+=$octal
+    done
+    printf "$text"
+}
+
 # damaged_sheets: number and place of the refusal, then the bytes
 damaged_sheets() {
     cat << 'END'

@@ -3,6 +3,8 @@
 #   $fault     number and place of that refusal
 #   $nothing   number of the refusal of an empty source
 #   $padded    the refusal of the good source with zeros after it
+#   $usage     what is said of a wrong number of arguments, and $too_many, the words after two that make it so
+#   $target    what the second argument is called where it is too long
 run() {
     "$bin/$program" "$@"
 }
@@ -17,13 +19,18 @@ takes() {
     judge "$1: what is made" cmp "$top/made" "$3"
 }
 
-# refuses NAME NUMBER PLACE SOURCE TARGET
+# refuses NAME NUMBER PLACE ARGUMENT..
 refuses() {
-    expect "$1" "$(refusal "$2" first "$3")$nl" '' run "$4" "$5"
+    refuses_part "$1" "$2" first "$3" "${@:4}"
 }
 
-# faulty TEXT: each line of standard input has number and place of a refusal, what stands in the text and what takes its place; _ is a
-# space, @ a line feed, and - alone nothing.
+# refuses_part NAME NUMBER PART PLACE ARGUMENT..
+refuses_part() {
+    expect "$1" "$(refusal "$2" "$3" "$4")$nl" '' run "${@:5}"
+}
+
+# faulty TEXT [THIRD]: each line of standard input has number and place of a refusal, what stands in the text and what takes its place; _
+# is a space, @ a line feed, and - alone nothing. THIRD is a third file.
 faulty() {
     local number place old new
     while read -r number place old new; do
@@ -32,9 +39,9 @@ faulty() {
         old=${old//@/$nl} new=${new//@/$nl}
         printf '%s' "${1/"$old"/"$new"}" > text
         judge "'$old' to '$new': the text differs" test "$(cat text; echo .)" != "$1."
-        rm -f sheet
-        refuses "'$old' to '$new'" "$number" "$place" text sheet
-        judge "'$old' to '$new': no target is made" test ! -e sheet
+        rm -f sheet ${2:+"$2"}
+        refuses "'$old' to '$new'" "$number" "$place" text sheet ${2:+"$2"}
+        judge "'$old' to '$new': no target is made" test ! -e sheet -a ! -e "${2:-sheet}"
     done
 }
 
@@ -80,19 +87,20 @@ pad 65536 < "$top/good" > long
 expect 'a source of 65536' "$(refusal $padded)$nl" '' run long target
 
 # arguments
-usage="usage: $program SOURCE TARGET$nl"
 cp "$top/good" good
 rm -f none
-expect 'no argument' '' "$usage" run
-expect 'one argument' '' "$usage" run good
-expect 'three arguments' '' "$usage" run good none more
+expect 'no argument' '' "$usage$nl" run
+expect 'one argument' '' "$usage$nl" run good
+expect 'one argument that is empty' '' "$usage$nl" run ''
+expect 'too many arguments' '' "$usage$nl" run good none $too_many
+expect 'far too many arguments' '' "$usage$nl" run good none $too_many 4 5 6 7
 judge 'wrong arguments: no target is made' test ! -e none
 
 # targets that cannot be made or written whole
 expect 'a folder as the target' '' "folder: Is a directory$nl" run good folder
 expect 'a target in no folder' '' "none/target: No such file or directory$nl" run good none/target
 expect 'an empty name as the target' '' ": No such file or directory$nl" run good ''
-expect 'a name that is too long' '' "TARGET: File name too long$nl" run good "$long_name"
+expect 'a name that is too long' '' "$target: File name too long$nl" run good "$long_name"
 expect 'a target that grows too large' '' "cut: File too large$nl" limited good cut
 judge 'a target that grows too large: it is removed' test ! -e cut
 if [ -c /dev/full ]; then

@@ -43,11 +43,8 @@ pub fn verdict(sheet: &[u8], text: &[u8]) -> String {
 }
 
 fn judged(sheet: &[u8], text: &[u8]) -> Result<Verdict, Refusal> {
-    for (part, file) in [(Part::First, sheet), (Part::Second, text)] {
-        if file.len() > LONGEST_FILE {
-            return Err(Refusal { number: 25, part, place: LONGEST_FILE });
-        }
-    }
+    not_too_long(Part::First, sheet)?;
+    not_too_long(Part::Second, text)?;
     Sheet::read(sheet, Part::First)?;
     let (mut prefix, mut period) = ([0; SCENES], [0; SCENES]);
     let lengths = show_text::read(text, &mut prefix, &mut period).map_err(|refusal| match refusal.part {
@@ -57,13 +54,21 @@ fn judged(sheet: &[u8], text: &[u8]) -> Result<Verdict, Refusal> {
     verdict::verdict(sheet, &prefix[..lengths.0], &period[..lengths.1])
 }
 
+/// Refusal 25 where a file has more bytes than are read.
+pub fn not_too_long(part: Part, file: &[u8]) -> Result<(), Refusal> {
+    if file.len() > LONGEST_FILE {
+        return Err(Refusal { number: 25, part, place: LONGEST_FILE });
+    }
+    Ok(())
+}
+
 /// The word and the numbers of a verdict.
 pub fn verdict_words(given: &Verdict) -> String {
     let word = if given.accepted { "accepted" } else { "rejected" };
     format!("{word} {} {} {} {}", given.before, given.turns, given.leading, given.end)
 }
 
-fn refused(Refusal { number, part, place }: Refusal) -> String {
+pub fn refused(Refusal { number, part, place }: Refusal) -> String {
     format!("refused part place\n{number} {} {place}\n", part.name())
 }
 

@@ -1,4 +1,5 @@
-//! Runs of a program on files at random, in a folder of its own: all that it prints is compared with what is due.
+//! Runs of programs on files at random, in a folder of their own: all that they print and every file there afterwards is compared with what
+//! is due.
 
 use crate::random::Random;
 use std::collections::BTreeMap;
@@ -9,29 +10,48 @@ use std::{env, fs};
 const RUNS: usize = 2000;
 const SEED: u64 = 1;
 
-/// A file of the folder, by name; none where it is missing.
-pub type File = (&'static str, Option<Vec<u8>>);
+/// Files by name.
+pub type Files = BTreeMap<&'static str, Vec<u8>>;
 
-/// The files of one run, what is due for them, and the kind of outcome that it counts as.
+/// One run of a program.
 pub struct Run {
-    pub files: [File; 2],
-    pub due: String,
+    /// Which of the programs, and the words after its name.
+    pub program: usize,
+    pub words: Vec<&'static str>,
+    pub files: Files,
+    pub due: Left,
+    /// The kind of outcome that it counts as.
     pub kind: String,
 }
 
-/// The whole of a program that is called with the path of another one and, if other than 2,000, the number of runs. Each of the kinds
-/// must come up, and no other.
-pub fn main(kinds: &[&str], run: impl FnMut(&mut Random) -> Result<Run, String>) -> ExitCode {
-    let words: Vec<String> = env::args().collect();
-    let result = match words.as_slice() {
-        [_, program] => all_runs(program, RUNS, kinds, run),
-        [_, program, runs] => match runs.parse() {
-            Ok(runs) => all_runs(program, runs, kinds, run),
-            Err(_) => Err(format!("{runs} is no number")),
-        },
-        _ => Err("give the program's path and, if other than 2,000, the number of runs".to_string()),
+/// What a run leaves: what it printed, and the files that are there.
+#[derive(Debug, PartialEq)]
+pub struct Left {
+    pub stdout: String,
+    pub stderr: String,
+    pub files: Files,
+}
+
+impl Run {
+    /// Of a program that takes no words and leaves its files alone; one that is none is missing.
+    pub fn reading(files: [(&'static str, Option<Vec<u8>>); 2], stdout: String, kind: String) -> Self {
+        let files: Files = files.into_iter().filter_map(|(name, bytes)| Some((name, bytes?))).collect();
+        let due = Left { stdout, stderr: String::new(), files: files.clone() };
+        Run { program: 0, words: Vec::new(), files, due, kind }
+    }
+}
+
+/// The whole of a program that is called with the paths of so many other ones and, if other than 2,000, the number of runs. Each of the
+/// kinds must come up, and no other.
+pub fn main(programs: usize, kinds: &[&str], run: impl FnMut(&mut Random) -> Result<Run, String>) -> ExitCode {
+    let words: Vec<String> = env::args().skip(1).collect();
+    let (paths, rest) = words.split_at(programs.min(words.len()));
+    let runs = match rest {
+        [] if paths.len() == programs => Ok(RUNS),
+        [runs] => runs.parse().map_err(|_| format!("{runs} is no number")),
+        _ => Err("give each program's path and, if other than 2,000, the number of runs".to_string()),
     };
-    match result {
+    match runs.and_then(|runs| all_runs(paths, runs, kinds, run)) {
         Ok(()) => ExitCode::SUCCESS,
         Err(fault) => {
             println!("FAILED: {fault}");
@@ -41,21 +61,25 @@ pub fn main(kinds: &[&str], run: impl FnMut(&mut Random) -> Result<Run, String>)
 }
 
 fn all_runs(
-    program: &str,
+    paths: &[String],
     runs: usize,
     kinds: &[&str],
     mut run: impl FnMut(&mut Random) -> Result<Run, String>,
 ) -> Result<(), String> {
-    let program = Program::new(program)?;
+    let programs = Programs::new(paths)?;
     let mut random = Random::new(SEED);
     let mut met: BTreeMap<String, usize> = BTreeMap::new();
     for at in 0..runs {
-        let Run { files, due, kind } = run(&mut random).map_err(|fault| format!("run {at}: {fault}"))?;
-        let printed = program.run_on(&files)?;
-        if printed != due {
-            return Err(format!("run {at}: {files:?}: printed\n{printed}due\n{due}"));
+        let run = run(&mut random).map_err(|fault| format!("run {at}: {fault}"))?;
+        let left = programs.run(&run)?;
+        if left != run.due {
+            let name = programs.paths[run.program].display();
+            return Err(format!(
+                "run {at}: {name} {:?} with {:?}: left\n{left:?}\ndue\n{:?}",
+                run.words, run.files, run.due
+            ));
         }
-        *met.entry(kind).or_default() += 1;
+        *met.entry(run.kind).or_default() += 1;
     }
     println!("{runs} runs of seed {SEED} agree: {met:?}");
     if let Some(kind) = met.keys().find(|kind| !kinds.contains(&kind.as_str())) {
@@ -67,47 +91,49 @@ fn all_runs(
     }
 }
 
-/// A program and the folder that it is run in, which is removed at the end.
-struct Program {
-    path: PathBuf,
+/// The programs and the folder that they are run in, which is removed at the end.
+struct Programs {
+    paths: Vec<PathBuf>,
     folder: PathBuf,
 }
 
-impl Program {
-    fn new(path: &str) -> Result<Self, String> {
-        let path = fs::canonicalize(path).map_err(|fault| format!("{path}: {fault}"))?;
-        let name = path.file_name().unwrap_or_default().to_string_lossy();
+impl Programs {
+    fn new(paths: &[String]) -> Result<Self, String> {
+        let found = |path: &String| fs::canonicalize(path).map_err(|fault| format!("{path}: {fault}"));
+        let paths: Vec<PathBuf> = paths.iter().map(found).collect::<Result<_, _>>()?;
+        let name = paths[0].file_name().unwrap_or_default().to_string_lossy();
         let folder = env::temp_dir().join(format!("{name}_runs.{}", std::process::id()));
-        Ok(Program { path, folder })
+        Ok(Programs { paths, folder })
     }
 
-    /// What the program prints where these files stand and no others; it must print nothing on standard error and make no file.
-    fn run_on(&self, files: &[File]) -> Result<String, String> {
+    /// What a program leaves where the run's files stand and no others.
+    fn run(&self, run: &Run) -> Result<Left, String> {
         let told = |fault: std::io::Error| fault.to_string();
         if self.folder.exists() {
             fs::remove_dir_all(&self.folder).map_err(told)?;
         }
         fs::create_dir_all(&self.folder).map_err(told)?;
-        for (name, bytes) in files {
-            if let Some(bytes) = bytes {
-                fs::write(self.folder.join(name), bytes).map_err(told)?;
-            }
+        for (name, bytes) in &run.files {
+            fs::write(self.folder.join(name), bytes).map_err(told)?;
         }
-        let run = Command::new(&self.path).current_dir(&self.folder).output().map_err(told)?;
-        if !run.stderr.is_empty() {
-            return Err(format!("{files:?}: on standard error: {}", run.stderr.escape_ascii()));
+        let mut command = Command::new(&self.paths[run.program]);
+        let output = command.args(&run.words).current_dir(&self.folder).output().map_err(told)?;
+        let printed = |bytes: Vec<u8>| String::from_utf8(bytes).map_err(|fault| fault.to_string());
+        let mut files = Files::new();
+        for entry in fs::read_dir(&self.folder).map_err(told)? {
+            let name = entry.map_err(told)?.file_name().to_string_lossy().into_owned();
+            // Names are known, as those of the run, or as those of what it should leave.
+            let known = run.files.keys().chain(run.due.files.keys()).find(|known| **known == name);
+            let known = known.ok_or_else(|| format!("a file {name} is there afterwards"))?;
+            files.insert(known, fs::read(self.folder.join(&name)).map_err(told)?);
         }
-        let left = fs::read_dir(&self.folder).map_err(told)?.count();
-        if left != files.iter().filter(|(_, bytes)| bytes.is_some()).count() {
-            return Err(format!("{files:?}: {left} files are there afterwards"));
-        }
-        String::from_utf8(run.stdout).map_err(|fault| fault.to_string())
+        Ok(Left { stdout: printed(output.stdout)?, stderr: printed(output.stderr)?, files })
     }
 }
 
-impl Drop for Program {
+impl Drop for Programs {
     fn drop(&mut self) {
-        // What is left of it says nothing of the program.
+        // What is left of it says nothing of the programs.
         let _ = fs::remove_dir_all(&self.folder);
     }
 }

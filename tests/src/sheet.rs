@@ -3,7 +3,7 @@
 /// The largest count of letters, of leading states and of progress states.
 pub const MOST: usize = 32;
 
-/// What a refusal concerns, with its number in the answer slice.
+/// What a refusal concerns, with its number in the answer slice; no answer there has the seconds (F-5).
 #[derive(Clone, Copy, Debug, PartialEq, Eq, PartialOrd, Ord)]
 pub enum Part {
     First = 0,
@@ -13,10 +13,11 @@ pub enum Part {
     Out = 4,
     Work = 5,
     Cursor = 6,
+    Seconds = 7,
 }
 
 impl Part {
-    /// Its name in 01.
+    /// Its name in 01; that of the seconds is in F-5.
     pub fn name(self) -> &'static str {
         match self {
             Part::First => "first",
@@ -26,6 +27,7 @@ impl Part {
             Part::Out => "out",
             Part::Work => "work",
             Part::Cursor => "cursor",
+            Part::Seconds => "seconds",
         }
     }
 }

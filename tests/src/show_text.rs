@@ -1,6 +1,6 @@
 //! A lasso as text, which the papers call a show (F-2): a line of names, a line for each letter of the prefix, then of the period.
 
-use crate::lent::fill;
+use crate::lent::{fill, room};
 use crate::sheet::{Part, Refusal, MOST};
 use crate::text_reader::Reader;
 
@@ -12,11 +12,8 @@ const PERIOD: &str = "loop ";
 /// Puts the lasso of a text into two lent slices and answers its two lengths.
 pub fn read(text: &[u8], prefix: &mut [u8], period: &mut [u8]) -> Result<(usize, usize), Refusal> {
     let lasso = lasso_of(text)?;
-    for (part, lent, letters) in [(Part::Opening, prefix.len(), &lasso.0), (Part::Loop, period.len(), &lasso.1)] {
-        if lent < letters.len() {
-            return Err(Refusal { number: 21, part, place: letters.len() });
-        }
-    }
+    room(Part::Opening, prefix.len(), lasso.0.len())?;
+    room(Part::Loop, period.len(), lasso.1.len())?;
     prefix[..lasso.0.len()].copy_from_slice(&lasso.0);
     period[..lasso.1.len()].copy_from_slice(&lasso.1);
     Ok((lasso.0.len(), lasso.1.len()))

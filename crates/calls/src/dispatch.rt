@@ -15,8 +15,8 @@ use forms::table::find;
 use forms::table::form_of;
 use lines::words::Word;
 
-const FORMS: [u8; 234] =
-    *b"check i|verdict i i i|complement i x|intersection i i x|union i i x|compare i i x y w|emptiness i x y w|start i|step p n i i|rest p n i i|number i n|read i x|write i x|read-show i x y|write-show i i x|import i x|pass i i m m m m m m m";
+const FORMS: [u8; 240] =
+    *b"check i|verdict i i i|complement i x|intersection i i x|union i i x|compare i i x y w|emptiness i x y w|start i|step p n i i|rest p n i i|number i n|read i x h|write n i j x|read-show i x y|write-show i i x|import i x|pass i i m m m m m m m";
 
 // The call that a line makes.
 pub fn call_of(line: &[u8]) -> Word {
@@ -52,8 +52,8 @@ pub fn make(
         8 => walking::step(g.p, g.n, a, b),
         9 => walking::rest(g.p, g.n, a, b, x),
         10 => text::number(a, g.n),
-        11 => text::read(a, x),
-        12 => text::write(a, x),
+        11 => text::read(a, x, y),
+        12 => text::write(g.n, a, b, x),
         13 => shows::read(a, x, y),
         14 => shows::write(a, b, x),
         15 => text::import(a, x),

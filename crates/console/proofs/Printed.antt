@@ -5,7 +5,7 @@ use Prim.Native.Nat.{ℕ, _+_, _-_, _≤_, _<_}
 use native.Mathlib.Omega.{arith}
 use lib.ListN.{length, take, drop, length-append}
 use Rattle.slices.specs.declared.Part.{Part}
-use Rattle.slices.specs.declared.Part.the-variants.{First, Second, Opening, Loop, Out, Work, Cursor}
+use Rattle.slices.specs.declared.Part.the-variants.{First, Second, Opening, Loop, Out, Work, Cursor, Seconds}
 use Rattle.slices.specs.declared.Refusal.{Refusal}
 use Rattle.slices.proofs.Filling.{Begun, begun-first, begun-more, lent-length}
 use Rattle.numbers.specs.Digits.{field}
@@ -56,6 +56,7 @@ part-length Loop = omega arith
 part-length Out = omega arith
 part-length Work = omega arith
 part-length Cursor = omega arith
+part-length Seconds = omega arith
 
 pub part-shown : {part : Part} (q : Part) {old out : List ℕ} {n : ℕ} → part ≡ q → Shows (partField q) old out n
     → Shows (partField part) old out n × (n ≤ 8)

@@ -4,12 +4,12 @@ use mathlib.Core.List.{List, [], _∷_, _++_}
 use Prim.Native.Nat.{ℕ, _≤_}
 use lib.ListN.{length}
 use Rattle.slices.specs.declared.Part.{Part}
-use Rattle.slices.specs.declared.Part.the-variants.{First, Second, Opening, Loop, Out, Work, Cursor}
+use Rattle.slices.specs.declared.Part.the-variants.{First, Second, Opening, Loop, Out, Work, Cursor, Seconds}
 use Rattle.slices.specs.declared.Refusal.{Refusal}
 use Rattle.slices.specs.Filling.{written}
 use Rattle.numbers.specs.Digits.{field}
 
--- "first", "second", "opening", "loop", "out", "work", "cursor"
+-- "first", "second", "opening", "loop", "out", "work", "cursor", "seconds"
 abbrev pub partName : Part → List ℕ
 partName First = 102 ∷ 105 ∷ 114 ∷ 115 ∷ 116 ∷ []
 partName Second = 115 ∷ 101 ∷ 99 ∷ 111 ∷ 110 ∷ 100 ∷ []
@@ -18,6 +18,7 @@ partName Loop = 108 ∷ 111 ∷ 111 ∷ 112 ∷ []
 partName Out = 111 ∷ 117 ∷ 116 ∷ []
 partName Work = 119 ∷ 111 ∷ 114 ∷ 107 ∷ []
 partName Cursor = 99 ∷ 117 ∷ 114 ∷ 115 ∷ 111 ∷ 114 ∷ []
+partName Seconds = 115 ∷ 101 ∷ 99 ∷ 111 ∷ 110 ∷ 100 ∷ 115 ∷ []
 
 -- A part's name and the space that ends its field.
 abbrev pub partField : Part → List ℕ

@@ -47,6 +47,7 @@ fn put_part(part: Part, out: &mut [u8]) -> usize
         Part::Out => put(b"out ", out),
         Part::Work => put(b"work ", out),
         Part::Cursor => put(b"cursor ", out),
+        Part::Seconds => put(b"seconds ", out),
     }
 }
 

@@ -2,12 +2,13 @@
 use mathlib.Core.Path.{_≡_, refl, ap, sym, subst, _∙_}
 use mathlib.Core.Bool.{Bool, true, false, cond}
 use mathlib.Core.List.{List, [], _∷_, _++_}
-use Prim.Native.Nat.{ℕ, zero, suc, _+_, _<_}
+use Prim.Native.Nat.{ℕ, zero, suc, _+_, _≤_, _<_}
 use native.Mathlib.Omega.{arith}
 use native.Mathlib.Decide.{ℕ-discrete}
 use lib.Dec.{eqb}
 use lib.ListN.{length, getD}
 use borrow.Author.Tests.{eq-eqb, ne-eqb}
+use Rattle.slices.specs.Scans.{outside}
 use Rattle.slices.specs.Tables.{tab, rows}
 use Rattle.slices.proofs.Tables.{length-tab, getD-tab, tab-getD, rows-same}
 use Rattle.numbers.specs.Digits.{field}
@@ -80,6 +81,14 @@ rows-singles (suc m) v = ap (λ (l : List ℕ). l ++ (v m ∷ [])) (rows-singles
 pub record RowFits (r : Row) (vs : List ℕ) : Type 0 where
   pub count : length vs ≡ r .count
   pub takes : (i : ℕ) → i < r .count → Takes (columnOf r i) (separator (r .count) i) (getD vs i 0)
+
+-- a space or a line feed ends a number, so a column takes what lies within its bounds
+pub within : (c : Column) (m i v : ℕ) → c .low ≤ v → v < c .limit → v < 1000 → Takes c (separator m i) v
+within c m i v a b d = record { low = a; high = b; small = d; ends = ends (eqb (i + 1) m) }
+  where
+    ends : (t : Bool) → outside 48 58 (cond t 10 32) ≡ true
+    ends true = refl
+    ends false = refl
 
 pub row-was : (r : Row) (vs : List ℕ) → Fits (row r) vs → RowFits r vs
 unfolding row

@@ -1,10 +1,12 @@
-// The arguments of a line, by their kinds: `i` is a slice of bytes that the call only reads, `x` and `y` one that is lent to it, `w`
-// one of 64-bit cells, `n` a number, `p` a cursor's part. `m` is a slice of bytes that the call reads itself, one after the other.
+// The arguments of a line, by their kinds: `i` is a slice of bytes that the call only reads, `j` one of 16-bit cells; `x` and `y` are slices
+// of bytes that are lent to it, `h` one of 16-bit cells, in the place of `y`, `w` one of 64-bit cells; `n` is a number, `p` a cursor's
+// part. `m` is a slice of bytes that the call reads itself, one after the other.
 use crate::replies::LOOP;
 use crate::replies::OPENING;
 use crate::table::Form;
 use lines::cells::Width;
 use lines::parts::between;
+use lines::parts::front_mut;
 use lines::reading::slice_in;
 use lines::words::Word;
 use lines::words::number_in;
@@ -14,8 +16,11 @@ use lines::words::pieces;
 // The longest slice of bytes.
 pub const LONGEST: usize = 300000;
 
+// The most cells of a slice of 16-bit cells.
+const MOST: usize = 65536;
+
 // What is given: the slices that are only read lie one behind the other in one slice, the k-th from ends[k] up to ends[k + 1]. Of the lent
-// ones, how many cells each has; one that the line does not have is lent whole.
+// ones, how many cells each has, and of `h` how many bytes; one that the line does not have is lent whole.
 pub struct Given {
     ends: [usize; 5],
     count: usize,
@@ -59,9 +64,9 @@ impl Given {
 
     fn good(mut self, kind: u8, v: usize) -> Given {
         match kind {
-            b'i' => return self.input(v),
+            b'i' | b'j' => return self.input(v),
             b'x' => self.x = v,
-            b'y' => self.y = v,
+            b'y' | b'h' => self.y = v,
             b'w' => self.w = v,
             b'n' => self.n = v,
             b'p' => self.p = v,
@@ -99,8 +104,28 @@ fn part_in(word: &[u8]) -> Word {
     Word::Bad
 }
 
+// Reads a slice of 16-bit cells to the start of some bytes; how many bytes it takes.
+fn read_halves(word: &[u8], bytes: &mut [u8], w: &mut [u64]) -> Word {
+    let found = slice_in(word, Width::Half, front_mut(bytes, MOST * 2), w);
+    let Word::Good(n) = found else {
+        return Word::Bad;
+    };
+    if MOST < n {
+        return Word::Bad;
+    }
+    Word::Good(n * 2)
+}
+
+// Reads a slice that is only read; how many bytes it takes.
+fn read_cells(kind: u8, word: &[u8], bytes: &mut [u8], w: &mut [u64]) -> Word {
+    if kind == b'j' {
+        return read_halves(word, bytes, w);
+    }
+    slice_in(word, Width::Byte, bytes, w)
+}
+
 // Reads a slice behind the others; where it ends.
-fn read_input(word: &[u8], inputs: &mut [u8], from: usize, w: &mut [u64]) -> Word {
+fn read_input(kind: u8, word: &[u8], inputs: &mut [u8], from: usize, w: &mut [u64]) -> Word {
     if inputs.len() < from {
         return Word::Bad;
     }
@@ -108,7 +133,7 @@ fn read_input(word: &[u8], inputs: &mut [u8], from: usize, w: &mut [u64]) -> Wor
         return Word::Bad;
     }
     let to = from + LONGEST;
-    let found = slice_in(word, Width::Byte, &mut inputs[from..to], w);
+    let found = read_cells(kind, word, &mut inputs[from..to], w);
     let Word::Good(n) = found else {
         return Word::Bad;
     };
@@ -129,10 +154,10 @@ fn read(
     w: &mut [u64],
 ) -> Word {
     match kind {
-        b'i' => read_input(word, inputs, from, w),
-        b'm' => slice_in(word, Width::Byte, x, w),
-        b'x' => slice_in(word, Width::Byte, x, w),
+        b'i' | b'j' => read_input(kind, word, inputs, from, w),
+        b'm' | b'x' => slice_in(word, Width::Byte, x, w),
         b'y' => slice_in(word, Width::Byte, y, w),
+        b'h' => read_halves(word, y, w),
         b'w' => slice_in(word, Width::Long, x, w),
         b'n' => number_in(word),
         b'p' => part_in(word),

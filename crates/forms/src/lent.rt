@@ -6,7 +6,7 @@ use lines::printing::put_slice;
 use lines::printing::put_text;
 
 fn is_lent(kind: u8) -> bool {
-    kind == b'x' || kind == b'y' || kind == b'w'
+    kind == b'x' || kind == b'y' || kind == b'h' || kind == b'w'
 }
 
 // What stands before a lent slice, by the kind of the argument before it.
@@ -21,6 +21,7 @@ fn put_kind(kind: u8, x: &[u8], y: &[u8], w: &[u64], out: &mut [u8], n: usize) -
     match kind {
         b'x' => put_slice(out, n, Width::Byte, x, w),
         b'y' => put_slice(out, n, Width::Byte, y, w),
+        b'h' => put_slice(out, n, Width::Half, y, w),
         _ => put_slice(out, n, Width::Long, x, w),
     }
 }

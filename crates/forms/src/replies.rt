@@ -12,8 +12,8 @@ use slices::Written;
 use slices::wide;
 
 // The words of answers. A word's number is its place among them.
-const WORDS: [u8; 145] =
-    *b"refused first second opening loop out work cursor valid accepted rejected filled contained missing empty found passed rest number reached unknown";
+const WORDS: [u8; 153] =
+    *b"refused first second opening loop out work cursor valid accepted rejected filled contained missing empty found passed rest number reached unknown seconds";
 
 pub const REFUSED: usize = 0;
 
@@ -48,6 +48,8 @@ pub const NUMBER: usize = 18;
 pub const REACHED: usize = 19;
 
 pub const UNKNOWN: usize = 20;
+
+pub const SECONDS: usize = 21;
 
 // The first `count` items, each a word where `words` says so, else a number. Where `has_slice`, the first `slice` bytes of the first
 // lent slice follow.
@@ -116,6 +118,7 @@ fn part_word(part: Part) -> usize {
         Part::Out => 5,
         Part::Work => 6,
         Part::Cursor => CURSOR,
+        Part::Seconds => SECONDS,
     }
 }
 

@@ -1,33 +1,38 @@
--- Reading succeeds exactly on the texts of valid sheets, and reading and writing are inverse. Assumes nothing.
+-- Reading succeeds exactly on the texts of valid sheets, at both levels, and reading and writing are inverse. Assumes nothing.
 use mathlib.Core.Path.{_≡_, refl, ap, ap₂, sym, subst, _∙_}
-use mathlib.Core.Bool.{Bool, true, false, cond, true≢false}
-use mathlib.Core.List.{List, [], _∷_, _++_}
-use Prim.Native.Nat.{ℕ, _+_, _<_}
+use mathlib.Core.Bool.{Bool}
+use mathlib.Core.List.{List, [], _∷_, _++_, append-assoc}
+use Prim.Native.Nat.{ℕ, _+_, _*_, _≤_, _<_}
 use native.Mathlib.Omega.{arith}
-use lib.Dec.{eqb, ltb}
-use lib.ListN.{length, length-append}
-use borrow.Author.Tests.{eq-eqb, eqb-true}
-use Rattle.slices.specs.declared.Part.the-variants.{First, Out}
-use Rattle.fdfa.specs.Family.{Fdfa, Agrees}
-use Rattle.slices.specs.Refusals.{sound, when, Result, given, refused, faultIn}
-use Rattle.slices.proofs.Refusals.{passed, then-left, never-given, given-was, sound-given}
+use lib.ListN.{length, getD, take, drop, length-take}
+use lib.Seq.{length-take-le, take-all, getD-take}
+use Rattle.slices.specs.declared.Part.the-variants.{First}
+use Rattle.slices.specs.Refusals.{Fault, sound, when, Result, given, mapped, faultIn, _then_}
+use Rattle.slices.specs.Scans.{outside}
+use Rattle.slices.specs.Seconds.{TimesFit, secondsFault}
 use Rattle.slices.specs.Tables.{tab, rows}
-use Rattle.slices.proofs.Tables.{tab-same, rows-same}
-use Rattle.packed.specs.Layout.{decode, mark, pack, Valid, Packable}
-use Rattle.packed.proofs.Soundness.{valid-packable}
+use Rattle.slices.proofs.Refusals.{passed, then-left, then-right, when-sound, when-passes, given-was, mapped-given, sound-given}
+use Rattle.slices.proofs.Scans.{inside, not-outside}
+use Rattle.slices.proofs.Timings.{seconds-fit, fit-seconds}
+use Rattle.slices.proofs.Tables.{length-tab, tab-getD, tab-same, rows-same}
+use Rattle.fdfa.specs.Family.{Fdfa, Agrees}
+use Rattle.packed.specs.Layout.{decode, mark, pack, letterCount, Valid, Packable}
+use Rattle.packed.specs.Faults.{sheetFault}
+use Rattle.packed.proofs.Soundness.{sound-valid, valid-sound, valid-packable}
 use Rattle.packed.proofs.Packing.{pack-same, pack-decode, decode-pack, pack-valid}
-use Rattle.numbers.proofs.Standing.{At, at-append, at-left, at-right, at-self, at-whole}
-use Rattle.format.specs.Format.{Found, reading, printed}
-use Rattle.format.proofs.Inverse.{Read, reading-was, reading-is}
-use Rattle.notation.specs.Text.{leadingValues, progressValues, frontFormat, partsFormat, frontOf, partsOf, textFor, textOf}
-use Rattle.notation.specs.Reading.{Numbers, ended, onward, numbersOf, familyOf, bytesIn, bytesOf, readFault}
-use Rattle.notation.specs.Values.{Whole}
-use Rattle.notation.proofs.Shapes.{whole-readable}
-use Rattle.notation.proofs.Texts.{front-fits, parts-fit}
-use Rattle.notation.proofs.Families.{family-is, front-is, parts-is}
+use Rattle.format.specs.Format.{printed}
+use Rattle.blocks.specs.Text.{timed, countsFormat, secondsFormat, leadingFormat, levelIn, lettersIn, statesIn, partsFormat, countsOf, secondsValues, secondsOf, leadingValues, leadingOf, progressValues, frontOf, partsOf, textFor, textOf}
+use Rattle.blocks.specs.Numbers.{familyOf, timesOf}
+use Rattle.blocks.specs.Values.{Whole}
+use Rattle.blocks.proofs.Shapes.{FrontFits, front-was, whole-readable}
+use Rattle.blocks.proofs.Durations as durations
+use Rattle.blocks.proofs.Families.{family-is, front-is, parts-is}
+use Rattle.notation.specs.Reading.{Numbers, numbersOf, Sheet, sheetOf, sheetIn, said, roomFault, readFault}
+use Rattle.notation.specs.Writing.{outFault, timesFault, writeFault, sheetText, Writable}
+use Rattle.notation.proofs.Whole.{text-numbers, ReadWhole, numbers-was}
 
 -- families that agree have one text
-module _ (F G : Fdfa) (a : Agrees F G) where
+module _ (level : ℕ) (w : List ℕ) (F G : Fdfa) (a : Agrees F G) where
   leading-same : (q : ℕ) → q < F .states → leadingValues F q ≡ leadingValues G q
   leading-same q h =
       ap₂ (λ (k : ℕ) (l : List ℕ). q ∷ k ∷ l) (a .sizes q h)
@@ -38,11 +43,12 @@ module _ (F G : Fdfa) (a : Agrees F G) where
       ap₂ (λ (m : Bool) (l : List ℕ). q ∷ p ∷ mark m ∷ l) (a .marks q p h k)
       (tab-same (F .letters) (F .progress q p) (G .progress q p) (λ b l. a .progresses q p b h k l) ∙ ap (λ (m : ℕ). tab m (G .progress q p)) (a .letters))
 
-  front-same : frontOf 3 F ≡ frontOf 3 G
-  unfolding frontOf
-  front-same =
-      ap₂ (λ (x y : List ℕ). x ++ y) (λ i. 3 ∷ a .letters i ∷ a .states i ∷ [])
-      (rows-same (F .states) (leadingValues F) (leadingValues G) leading-same ∙ ap (λ (m : ℕ). rows m (leadingValues G)) (a .states))
+  rows-of : leadingOf F ≡ leadingOf G
+  unfolding leadingOf
+  rows-of = rows-same (F .states) (leadingValues F) (leadingValues G) leading-same ∙ ap (λ (m : ℕ). rows m (leadingValues G)) (a .states)
+
+  front-same : frontOf level F ≡ frontOf level G
+  front-same = λ i. (level ∷ a .letters i ∷ a .states i ∷ []) ++ rows-of i
 
   parts-same : partsOf F ≡ partsOf G
   unfolding partsOf
@@ -51,117 +57,202 @@ module _ (F G : Fdfa) (a : Agrees F G) where
       (λ q h. rows-same (F .size q) (progressValues F q) (progressValues G q) (λ p k. progress-same q p h k) ∙ ap (λ (m : ℕ). rows m (progressValues G q)) (a .sizes q h))
       ∙ ap (λ (m : ℕ). rows m (λ q. rows (G .size q) (progressValues G q))) (a .states)
 
-  text-same : textFor 3 F ≡ textFor 3 G
-  text-same = λ i. printed (frontFormat 3) (front-same i) ++ printed (partsFormat (front-same i)) (parts-same i)
+  text-same : textFor level w F ≡ textFor level w G
+  text-same = λ i.
+      printed countsFormat (level ∷ a .letters i ∷ a .states i ∷ [])
+      ++ (printed (secondsFormat level (a .letters i)) (secondsOf level (a .letters i) w)
+      ++ (printed (leadingFormat (a .letters i) (a .states i)) (rows-of i) ++ printed (partsFormat (front-same i)) (parts-same i)))
 
--- the text of a family is read, to its numbers
-text-numbers : (level : ℕ) → level < 1000 → (F : Fdfa) → Packable F → numbersOf level (textFor level F) ≡ given (record { front = frontOf level F; parts = partsOf F })
-unfolding numbersOf
-text-numbers level small F P =
-    ap (onward t) (reading-is First t (frontFormat level) 0 front (front-fits level small F P) (at-left t 0 x y (at-self t)))
-    ∙ (ap (ended t front) (reading-is First t (partsFormat front) (0 + length x) (partsOf F) (parts-fit level small F P) (at-right t 0 x y (at-self t))) ∙ whole (eqb (0 + length x + length y) (length t)) end)
-  where
-    t : List ℕ
-    t = textFor level F
+-- the text of a valid sheet is read, to that sheet and the seconds of its letters
+module _ (level : ℕ) (low : 3 ≤ level) (high : level < 5) (b : List ℕ) (v : Valid b) (w : List ℕ) (fit : TimesFit (timed level (letterCount b)) w) where
+  abbrev F : Fdfa
+  F = decode b
 
-    front : List ℕ
-    front = frontOf level F
+  abbrev m : ℕ
+  m = timed level (letterCount b)
 
-    x : List ℕ
-    x = printed (frontFormat level) front
+  packs : Packable F
+  packs = valid-packable b v
 
-    y : List ℕ
-    y = printed (partsFormat front) (partsOf F)
+  bytes : pack (familyOf (frontOf level F) (partsOf F)) ≡ b
+  bytes = sym (pack-same F (familyOf (frontOf level F) (partsOf F)) (family-is F packs level)) ∙ pack-decode b v
 
-    end : eqb (0 + length x + length y) (length t) ≡ true
-    end = eq-eqb (0 + length x + length y) (length t) (omega (arith, length-append x y))
+  cells : timesOf (frontOf level F) (secondsOf level (letterCount b) w) ≡ take m w
+  cells =
+      durations.cells-of level (letterCount b) w
+      ∙ (tab-same m (λ a. getD w a 0) (λ a. getD (take m w) a 0) (λ a h. sym (getD-take m w a 0 h))
+      ∙ (ap (λ (k : ℕ). tab k (λ a. getD (take m w) a 0)) (sym (length-take-le m w (fit .many))) ∙ tab-getD (take m w)))
 
-    whole : (b : Bool) → b ≡ true → cond {A = Result Numbers} b (given (record { front = front; parts = partsOf F })) (refused (record { number = 11; part = First; place = 0 + length x + length y })) ≡ given (record { front = front; parts = partsOf F })
-    whole true e = refl
-    whole false e = absurd (true≢false (sym e))
+  pub text-said : sheetIn (textOf level w b) ≡ given (record { level = level; bytes = b; seconds = take m w })
+  unfolding sheetIn textOf
+  text-said =
+      ap (mapped sheetOf) (text-numbers level low high F packs w fit)
+      ∙ (λ i. given (record { level = level; bytes = bytes i; seconds = cells i }))
 
--- what is read fits, and its text is what was read
-pub record ReadWhole (t : List ℕ) (v : Numbers) : Type 0 where
-  pub whole : Whole (v .front) (v .parts)
-  pub text : t ≡ printed (frontFormat 3) (v .front) ++ printed (partsFormat (v .front)) (v .parts)
-
-pub numbers-was : (t : List ℕ) (v : Numbers) → numbersOf 3 t ≡ given v → ReadWhole t v
-unfolding numbersOf
-numbers-was t v d = front (reading First t (frontFormat 3) 0) refl d
-  where
-    end : (f g : Found) → Read t (frontFormat 3) 0 f → Read t (partsFormat (f .values)) (f .next) g → (b : Bool) → eqb (g .next) (length t) ≡ b
-        → cond {A = Result Numbers} b (given (record { front = f .values; parts = g .values })) (refused (record { number = 11; part = First; place = g .next })) ≡ given v → ReadWhole t v
-    end f g x y false e k = absurd (never-given k)
-    end f g x y true e k =
-        let p = printed (frontFormat 3) (f .values) in
-        let q = printed (partsFormat (f .values)) (g .values) in
-        let stop : g .next ≡ length t = eqb-true (g .next) (length t) e in
-        let a : At t 0 (p ++ q) = at-append t 0 p q (x .here) (subst (λ (z : ℕ). At t z q) (x .next) (y .here)) in
-        let long : length (p ++ q) ≡ length t = omega (arith, length-append p q, x .next, y .next, stop) in
-        subst (ReadWhole t) (given-was k) (record { whole = record { first = x .fits; second = y .fits }; text = at-whole t (p ++ q) a long })
-
-    rest : (f : Found) → Read t (frontFormat 3) 0 f → (z : Result Found) → reading First t (partsFormat (f .values)) (f .next) ≡ z → ended t (f .values) z ≡ given v → ReadWhole t v
-    rest f x (refused r) e k = absurd (never-given k)
-    rest f x (given g) e k = end f g x (reading-was First t (partsFormat (f .values)) (f .next) g (omega (arith, x .next, x .here .within)) e) (eqb (g .next) (length t)) refl k
-
-    front : (z : Result Found) → reading First t (frontFormat 3) 0 ≡ z → onward t z ≡ given v → ReadWhole t v
-    front (refused r) e k = absurd (never-given k)
-    front (given f) e k = rest f (reading-was First t (frontFormat 3) 0 f (omega arith) e) (reading First t (partsFormat (f .values)) (f .next)) refl k
-
--- the text of a valid sheet is read, to that sheet
-module _ (b : List ℕ) (v : Valid b) where
-  text-read-to : numbersOf 3 (textOf b) ≡ given (record { front = frontOf 3 (decode b); parts = partsOf (decode b) })
-  unfolding textOf
-  text-read-to = text-numbers 3 (omega arith) (decode b) (valid-packable b v)
-
-  pub text-sound : faultIn (numbersOf 3 (textOf b)) ≡ sound
-  text-sound = ap faultIn text-read-to
-
-  pub text-bytes : bytesOf (textOf b) ≡ b
-  unfolding bytesOf
-  text-bytes =
-      ap bytesIn text-read-to
-      ∙ (sym (pack-same (decode b) (familyOf (frontOf 3 (decode b)) (partsOf (decode b))) (family-is 3 (omega arith) (decode b) (valid-packable b v))) ∙ pack-decode b v)
-
-  -- for every out slice: 21 where it is too short, else the sheet
-  pub text-read : (room : ℕ) → readFault (textOf b) room ≡ when (ltb room (length b)) 21 Out (length b)
-  unfolding readFault bytesOf
-  text-read room = passed _ text-sound ∙ ap (λ (x : List ℕ). when (ltb room (length x)) 21 Out (length x)) text-bytes
-
--- what is read is a valid sheet, and its text is what was read
-module _ (t : List ℕ) (v : Numbers) (d : numbersOf 3 t ≡ given v) where
+-- what is read is a valid sheet with its seconds, and its text is what was read
+module _ (t : List ℕ) (v : Numbers) (d : numbersOf t ≡ given v) where
   abbrev G : Fdfa
   G = familyOf (v .front) (v .parts)
+
+  abbrev l : ℕ
+  l = levelIn (v .front)
+
+  abbrev s : ℕ
+  s = lettersIn (v .front)
+
+  abbrev times : List ℕ
+  times = timesOf (v .front) (v .timings)
 
   read : ReadWhole t v
   read = numbers-was t v d
 
-  packs : Packable G
-  packs = whole-readable (v .front) (v .parts) (read .whole) .packable
+  whole : Whole (v .front) (v .parts)
+  whole = record { first = read .front; second = read .parts }
 
-  bytes-are : bytesOf t ≡ pack G
-  unfolding bytesOf
-  bytes-are = ap bytesIn d
+  facts : FrontFits (v .front)
+  facts = front-was (v .front) (read .front)
 
-  family-text : textFor 3 G ≡ t
+  packable : Packable G
+  packable = whole-readable (v .front) (v .parts) whole .packable
+
+  front-back : frontOf l G ≡ v .front
+  front-back = front-is (v .front) (v .parts) whole
+
+  family-text : textFor l times G ≡ t
   family-text =
-      (λ i. printed (frontFormat 3) (front-is (v .front) (v .parts) (read .whole) i) ++ printed (partsFormat (front-is (v .front) (v .parts) (read .whole) i)) (parts-is (v .front) (v .parts) (read .whole) i))
-      ∙ sym (read .text)
+      (λ i. printed countsFormat (take 3 (front-back i))
+      ++ (printed (secondsFormat l s) (sym (durations.seconds-are l s (v .timings) (read .seconds)) i)
+      ++ (printed (leadingFormat s (statesIn (v .front))) (drop 3 (front-back i)) ++ printed (partsFormat (front-back i)) (parts-is (v .front) (v .parts) whole i))))
+      ∙ (assoc (printed countsFormat (take 3 (v .front))) (printed (secondsFormat l s) (v .timings)) (printed (leadingFormat s (statesIn (v .front))) (drop 3 (v .front))) (printed (partsFormat (v .front)) (v .parts)) ∙ sym (read .text))
+    where
+      assoc : (x y z u : List ℕ) → x ++ (y ++ (z ++ u)) ≡ (x ++ (y ++ z)) ++ u
+      assoc x y z u = sym (append-assoc x (y ++ z) u ∙ ap (λ (k : List ℕ). x ++ k) (append-assoc y z u))
 
-  pub read-valid : Valid (bytesOf t)
-  read-valid = subst Valid (sym bytes-are) (pack-valid G packs)
+  writable : Writable (sheetOf v)
+  writable = record {
+    low = facts .low-level;
+    high = facts .high-level;
+    valid = pack-valid G packable;
+    exact = length-tab (timed l s) (λ a. getD (v .timings) (a * 2 + 1) 0);
+    times = durations.times-fit l s (v .timings) (read .seconds);
+  }
 
-  pub read-text : textOf (bytesOf t) ≡ t
+  text-back : sheetText (sheetOf v) ≡ t
   unfolding textOf
-  read-text = ap textOf bytes-are ∙ (sym (text-same G (decode (pack G)) (decode-pack G packs)) ∙ family-text)
+  text-back = sym (text-same l times G (decode (pack G)) (decode-pack G packable)) ∙ family-text
 
-pub read-is : (t : List ℕ) (room : ℕ) → readFault t room ≡ sound → Valid (bytesOf t) × (textOf (bytesOf t) ≡ t)
-unfolding readFault
-read-is t room d = by (sound-given (numbersOf 3 t) (then-left (faultIn (numbersOf 3 t)) _ d))
-  where
-    by : ((v : Numbers) × (numbersOf 3 t ≡ given v)) → Valid (bytesOf t) × (textOf (bytesOf t) ≡ t)
-    by w = (read-valid t (w .0) (w .1), read-text t (w .0) (w .1))
+-- The two-way rule, for both levels: reading gives a sheet exactly on its text, and only sheets that have one.
+pub text-read : (x : Sheet) → Writable x → sheetIn (sheetText x) ≡ given x
+text-read x w =
+    text-said (x .level) (w .low) (w .high) (x .bytes) (w .valid) (x .seconds) (w .times)
+    ∙ ap (λ (k : List ℕ). given (record { level = x .level; bytes = x .bytes; seconds = k })) (take-all (timed (x .level) (letterCount (x .bytes))) (x .seconds) (omega (arith, w .exact)))
 
--- two valid sheets with one text are one sheet
-pub text-once : (b c : List ℕ) → Valid b → Valid c → textOf b ≡ textOf c → b ≡ c
-text-once b c v w e = sym (text-bytes b v) ∙ (ap bytesOf e ∙ text-bytes c w)
+pub read-text : (t : List ℕ) (x : Sheet) → sheetIn t ≡ given x → Writable x × (sheetText x ≡ t)
+unfolding sheetIn
+read-text t x e =
+    let v = mapped-given sheetOf (numbersOf t) e in
+    subst (λ (y : Sheet). Writable y × (sheetText y ≡ t)) (v .2) (writable t (v .0) (v .1), text-back t (v .0) (v .1))
+
+pub text-once : (x y : Sheet) → Writable x → Writable y → sheetText x ≡ sheetText y → x ≡ y
+text-once x y v w e = given-was (sym (text-read x v) ∙ (ap sheetIn e ∙ text-read y w))
+
+-- The same of the two calls. What was written is read: 21 where a slice is too short, else the level, the sheet, and the seconds of the letters.
+module _ (level : ℕ) (w b : List ℕ) (room : ℕ) (e : writeFault level w b room ≡ sound) where
+  abbrev sheet : Sheet
+  sheet = record { level = level; bytes = b; seconds = take (timed level (letterCount b)) w }
+
+  good-level : (3 ≤ level) × (level < 5)
+  unfolding writeFault
+  good-level = inside 3 5 level (when-sound (outside 3 5 level) 10 First 0 (then-left (when (outside 3 5 level) 10 First 0) _ e))
+
+  after-level : sheetFault First b then timesFault level w b room ≡ sound
+  unfolding writeFault
+  after-level = then-right (when (outside 3 5 level) 10 First 0) (sheetFault First b then timesFault level w b room) e
+
+  times-good : TimesFit (timed level (letterCount b)) w
+  times-good =
+      seconds-fit (timed level (letterCount b)) w
+      (then-left (secondsFault (timed level (letterCount b)) w) (outFault (textOf level w b) room) (then-right (sheetFault First b) (timesFault level w b room) after-level))
+
+  pub written-said : sheetIn (textOf level w b) ≡ given sheet
+  written-said = text-said level (good-level .0) (good-level .1) b (sound-valid First b (then-left (sheetFault First b) (timesFault level w b room) after-level)) w times-good
+
+  pub written-read : (out cells : ℕ) → readFault (sheetIn (textOf level w b)) out cells ≡ roomFault sheet out cells
+  written-read out cells = ap (λ (x : Result Sheet). readFault x out cells) written-said
+
+-- Of the seconds a text has the cells of the letters that have some, and no others are judged.
+module _ (level : ℕ) (b w u : List ℕ) where
+  abbrev n : ℕ
+  n = timed level (letterCount b)
+
+  same-cell : take n w ≡ take n u → (a : ℕ) → a < n → getD w a 0 ≡ getD u a 0
+  same-cell e a h = sym (getD-take n w a 0 h) ∙ (ap (λ (k : List ℕ). getD k a 0) e ∙ getD-take n u a 0 h)
+
+  same-rows : take n w ≡ take n u → secondsOf level (letterCount b) w ≡ secondsOf level (letterCount b) u
+  unfolding secondsOf
+  same-rows e = rows-same n (secondsValues w) (secondsValues u) (λ a h. ap (λ (x : ℕ). a ∷ x ∷ []) (same-cell e a h))
+
+  pub text-cells : take n w ≡ take n u → textOf level w b ≡ textOf level u b
+  unfolding textOf
+  text-cells e = λ i.
+      printed countsFormat (countsOf level (decode b))
+      ++ (printed (secondsFormat level (letterCount b)) (same-rows e i)
+      ++ (printed (leadingFormat (letterCount b) (decode b .states)) (leadingOf (decode b)) ++ printed (partsFormat (frontOf level (decode b))) (partsOf (decode b))))
+
+  times-cells : take n w ≡ take n u → n ≤ length w → TimesFit n u → TimesFit n w
+  times-cells e h t = record {
+    many = h;
+    good = λ a l. subst (λ (x : ℕ). (1 ≤ x) × (x < 1000)) (sym (same-cell e a l)) (t .good a l);
+  }
+
+-- At level three the seconds are neither judged nor written, nor said.
+none-fit : (w : List ℕ) → TimesFit 0 w
+none-fit w = record { many = omega arith; good = λ a h. absurd (omega arith) }
+
+pub three-written : (w u b : List ℕ) → textOf 3 w b ≡ textOf 3 u b
+unfolding timed
+three-written w u b = text-cells 3 b w u refl
+
+pub three-judged : (w u b : List ℕ) (room : ℕ) → writeFault 3 w b room ≡ writeFault 3 u b room
+unfolding writeFault timed
+three-judged w u b room =
+    ap₂ (λ (x y : Fault). sheetFault First b then (x then y)) (fit-seconds 0 w (none-fit w) ∙ sym (fit-seconds 0 u (none-fit u)))
+    (ap (λ (k : List ℕ). outFault k room) (three-written w u b))
+
+pub three-said : (x : Sheet) → Writable x → x .level ≡ 3 → length (x .seconds) ≡ 0
+unfolding timed
+three-said x w e = w .exact ∙ ap (λ (l : ℕ). timed l (letterCount (x .bytes))) e
+
+-- What was read is written, to the same text, with its seconds at the start of a slice of any length: only the out slice may be too short.
+module _ (t : List ℕ) (e : faultIn (sheetIn t) ≡ sound) where
+  abbrev x : Sheet
+  x = said (sheetIn t)
+
+  found : Writable x × (sheetText x ≡ t)
+  found =
+      let y = sound-given (sheetIn t) e in
+      subst (λ (z : Sheet). Writable z × (sheetText z ≡ t)) (sym (ap said (y .1))) (read-text t (y .0) (y .1))
+
+  pub read-writable : Writable x
+  read-writable = found .0
+
+  module _ (w : List ℕ) (h : take (length (x .seconds)) w ≡ x .seconds) where
+    abbrev many : ℕ
+    many = timed (x .level) (letterCount (x .bytes))
+
+    same : take many w ≡ take many (x .seconds)
+    same =
+        ap (λ (k : ℕ). take k w) (sym (read-writable .exact))
+        ∙ (h ∙ sym (take-all many (x .seconds) (omega (arith, read-writable .exact))))
+
+    pub read-back : textOf (x .level) w (x .bytes) ≡ t
+    read-back = text-cells (x .level) (x .bytes) w (x .seconds) same ∙ found .1
+
+    pub read-written : (room : ℕ) → writeFault (x .level) w (x .bytes) room ≡ outFault t room
+    unfolding writeFault
+    read-written room =
+        let r = read-writable in
+        let long : many ≤ length w = omega (arith, ap length h, length-take (length (x .seconds)) w, r .exact) in
+        passed _ (when-passes 10 First 0 (not-outside 3 5 (x .level) (r .low) (r .high)))
+        ∙ (passed _ (valid-sound First (x .bytes) (r .valid))
+        ∙ (passed _ (fit-seconds many w (times-cells (x .level) (x .bytes) w (x .seconds) same long (r .times))) ∙ ap (λ (k : List ℕ). outFault k room) read-back))

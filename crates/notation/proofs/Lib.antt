@@ -1,13 +1,7 @@
-pub mod Measures
-pub mod Gathered
-pub mod LetterNames
-pub mod Lengths
-pub mod RowValues
-pub mod Shapes
-pub mod Texts
-pub mod FrontRead
-pub mod PartsRead
 pub mod Outcomes
-pub mod Families
+pub mod Opening
+pub mod Texting
+pub mod Whole
 pub mod Laws
 pub mod SheetB
+pub mod Refused

@@ -1,4 +1,4 @@
--- The text of sheet B of 01, whole, line by line. Assumes nothing.
+-- The text of sheet B of 01 at both levels, whole, line by line. Assumes nothing.
 use mathlib.Core.Path.{_≡_, refl}
 use mathlib.Core.List.{List, [], _∷_, _++_}
 use Prim.Native.Nat.{ℕ}
@@ -7,7 +7,7 @@ use Rattle.packed.specs.Layout.{progressAt}
 use Rattle.numbers.specs.Digits.{digitsWithin, digitsOf}
 use Rattle.format.specs.Format.{printed, seq, each}
 use Rattle.format.specs.Rows.{row}
-use Rattle.notation.specs.Text.{frontFormat, partsFormat, frontOf, partsOf, textOf}
+use Rattle.blocks.specs.Text.{secondsTitle, timed, secondsFormat, partsFormat, secondsOf, leadingOf, partsOf, textOf}
 
 -- level scenes places
 abbrev one : List ℕ
@@ -37,6 +37,30 @@ six = 48 ∷ 32 ∷ 48 ∷ 32 ∷ 48 ∷ 32 ∷ 49 ∷ 32 ∷ 48 ∷ 10 ∷ []
 abbrev seven : List ℕ
 seven = 48 ∷ 32 ∷ 49 ∷ 32 ∷ 49 ∷ 32 ∷ 49 ∷ 32 ∷ 49 ∷ 10 ∷ []
 
-pub text-of-B : textOf (2 ∷ 1 ∷ 2 ∷ 0 ∷ 0 ∷ 1 ∷ 0 ∷ 1 ∷ 1 ∷ 0 ∷ 1 ∷ []) ≡ one ++ two ++ three ++ four ++ five ++ six ++ seven
-unfolding textOf frontFormat partsFormat frontOf partsOf printed seq each row digitsOf digitsWithin rows tab progressAt sum
-text-of-B = refl
+abbrev pub B : List ℕ
+B = 2 ∷ 1 ∷ 2 ∷ 0 ∷ 0 ∷ 1 ∷ 0 ∷ 1 ∷ 1 ∷ 0 ∷ 1 ∷ []
+
+-- at level three no seconds are looked at
+pub text-of-B : (w : List ℕ) → textOf 3 w B ≡ one ++ two ++ three ++ four ++ five ++ six ++ seven
+unfolding textOf secondsTitle timed secondsFormat partsFormat secondsOf leadingOf partsOf printed seq each row digitsOf digitsWithin rows tab progressAt sum
+text-of-B w = refl
+
+-- 4 2 1
+abbrev two-four : List ℕ
+two-four = 52 ∷ 32 ∷ 50 ∷ 32 ∷ 49 ∷ 10 ∷ []
+
+-- scene seconds
+abbrev scene-seconds : List ℕ
+scene-seconds = 115 ∷ 99 ∷ 101 ∷ 110 ∷ 101 ∷ 32 ∷ 115 ∷ 101 ∷ 99 ∷ 111 ∷ 110 ∷ 100 ∷ 115 ∷ 10 ∷ []
+
+-- 0 1
+abbrev of-zero : List ℕ
+of-zero = 48 ∷ 32 ∷ 49 ∷ 10 ∷ []
+
+-- 1 999
+abbrev of-one : List ℕ
+of-one = 49 ∷ 32 ∷ 57 ∷ 57 ∷ 57 ∷ 10 ∷ []
+
+pub text-of-B-at-four : textOf 4 (1 ∷ 999 ∷ []) B ≡ one ++ two-four ++ scene-seconds ++ of-zero ++ of-one ++ three ++ four ++ five ++ six ++ seven
+unfolding textOf secondsTitle timed secondsFormat partsFormat secondsOf leadingOf partsOf printed seq each row digitsOf digitsWithin rows tab progressAt sum
+text-of-B-at-four = refl

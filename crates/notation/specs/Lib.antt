@@ -1,5 +1,3 @@
-pub mod Text
 pub mod Reading
 pub mod Writing
-pub mod Lines
-pub mod Values
+pub mod Steps

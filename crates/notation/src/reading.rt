@@ -1,227 +1,119 @@
-// The blocks of a sheet's text, read one after the other; their numbers go to lent slices, in the order of the text.
-use crate::names::NAMES;
-use crate::names::names_len;
-use format::Column;
-use format::Row;
+// What a text says: the packed sheet and the seconds.
+use crate::Levelled;
+use blocks::fill;
+use blocks::fill_seconds;
+use blocks::read_blocks;
+use blocks::read_progress;
+use blocks::row_count;
+use blocks::timed;
 use format::Step;
-use format::read_literal;
-use format::read_row;
-use format::read_rows;
 use slices::Part;
+use slices::Written;
+use slices::refuse;
 use slices::wide16;
 ghost use mathlib.Core.Path.{_≡_};
-ghost use mathlib.Core.List.{_∷_, []};
+ghost use mathlib.Core.List.{List};
 ghost use Prim.Native.Nat.{ℕ, _+_, _*_, _≤_, _<_};
 ghost use lib.ListN.{length};
 ghost use Rattle.slices.specs.declared.Part.the-variants.{First};
-ghost use Rattle.format.specs.Format.{reading, Fits, seq, each, literal};
-ghost use Rattle.format.specs.Steps.{placed, stepSays, Reads};
-ghost use Rattle.notation.specs.Text.{names, head, countsRow, leadingRow, progressRow, countsFormat, leadingFormat, partFormat, lettersIn, statesIn, sizeIn, frontFormat, partsFormat};
+ghost use Rattle.slices.specs.Refusals.{given};
+ghost use Rattle.format.specs.Format.{reading, Fits};
+ghost use Rattle.blocks.specs.Text.{timed, levelIn, lettersIn, statesIn, partsFormat};
+ghost use Rattle.blocks.specs.Values.{frontFormat, Whole};
+ghost use Rattle.notation.specs.Reading.{ended, sheetIn, SheetRead};
+ghost use Rattle.notation.specs.Steps.{Packs, Opened};
 
-// The row of the counts, at a level.
-fn counts_row(level: usize) -> Row
-    requires { ⌜ level < 1000 ⌝ }
-    ensures { λ r. ⌜ r ≡ countsRow level ⌝ }
+// The packed sheet of numbers that are all read, if nothing follows, and if there are `cells` cells for the seconds of m letters.
+fn pack_numbers(
+    text: &[u8],
+    at: usize,
+    front: &[u16],
+    parts: &[u16],
+    s: usize,
+    n: usize,
+    m: usize,
+    cells: usize,
+    out: &mut [u8],
+) -> Written
+    requires { ⌜ Whole (now front) (now parts) × (s ≡ lettersIn (now front)) × (n ≡ statesIn (now front)) × (m ≡ timed (levelIn (now front)) s) ⌝ }
+    ensures { λ r. ⌜ ((rows : List ℕ) → Packs (ended (now (text .entry)) (record { front = now (front .entry); timings = rows; next = at }) (given (record { values = now (parts .entry); next = at }))) cells (now (out .entry)) (now (out .exit)) r) ⌝ }
 {
-    let first = Column {
-        low: level,
-        limit: level + 1,
-        number: 10,
-    };
-    let second = Column {
-        low: 1,
-        limit: 33,
-        number: 2,
-    };
-    let third = Column {
-        low: 1,
-        limit: 33,
-        number: 3,
-    };
-    Row {
-        first,
-        second,
-        third,
-        rest: third,
-        count: 3,
+    if at != text.len() {
+        return Written::Refused(refuse(11, Part::First, at));
     }
+    let need = 2 + n + n * s + row_count(front, s, n) * (s + 1);
+    if out.len() < need {
+        return Written::Refused(refuse(21, Part::Out, need));
+    }
+    if cells < m {
+        return Written::Refused(refuse(21, Part::Seconds, m));
+    }
+    fill(front, parts, s, n, out);
+    Written::Filled(need)
 }
 
-// A row of the leading automaton.
-fn leading_row(s: usize, n: usize) -> Row
-    requires { ⌜ s ≤ 32 ⌝ }
-    ensures { λ r. ⌜ r ≡ leadingRow s n 0 ⌝ }
-{
-    let first = Column {
-        low: 0,
-        limit: 1,
-        number: 12,
-    };
-    let second = Column {
-        low: 1,
-        limit: 33,
-        number: 4,
-    };
-    let rest = Column {
-        low: 0,
-        limit: n,
-        number: 5,
-    };
-    Row {
-        first,
-        second,
-        third: rest,
-        rest,
-        count: s + 2,
-    }
-}
-
-// A row of the progress automaton of q, of size k.
-fn progress_row(s: usize, q: usize, k: usize) -> Row
-    requires { ⌜ (s ≤ 32) × (q < 1000) ⌝ }
-    ensures { λ r. ⌜ r ≡ progressRow s q k 0 ⌝ }
-{
-    let first = Column {
-        low: q,
-        limit: q + 1,
-        number: 12,
-    };
-    let second = Column {
-        low: 0,
-        limit: 1,
-        number: 12,
-    };
-    let third = Column {
-        low: 0,
-        limit: 2,
-        number: 6,
-    };
-    let rest = Column {
-        low: 0,
-        limit: k,
-        number: 5,
-    };
-    Row {
-        first,
-        second,
-        third,
-        rest,
-        count: s + 3,
-    }
-}
-
-// The names of the letters and a line feed.
-fn read_names(text: &[u8], at: usize, s: usize) -> Step
-    requires { ⌜ (at ≤ length (now text)) × (s ≤ 32) ⌝ }
-    ensures { λ r. ⌜ stepSays r ≡ placed (reading First (now (text .entry)) (seq (literal (names s)) (λ vs. literal (10 ∷ []))) at) ⌝ }
-{
-    let step = read_literal(text, at, &NAMES[..names_len(s)], Part::First);
-    match step {
-        Step::Refused(x) => Step::Refused(x),
-        Step::Next(e) => read_literal(text, e, b"\n", Part::First),
-    }
-}
-
-// A line of names: a title, then the names of the letters.
-fn read_head(text: &[u8], at: usize, title: &[u8], s: usize) -> Step
-    requires { ⌜ (at ≤ length (now text)) × (s ≤ 32) ⌝ }
-    ensures { λ r. ⌜ stepSays r ≡ placed (reading First (now (text .entry)) (head (now (title .entry)) s) at) ⌝ }
-{
-    let step = read_literal(text, at, title, Part::First);
-    match step {
-        Step::Refused(x) => Step::Refused(x),
-        Step::Next(e) => read_names(text, e, s),
-    }
-}
-
-// The block of the counts.
-fn read_counts(text: &[u8], front: &mut [u16]) -> Step
-    requires { ⌜ 3 ≤ length (now front) ⌝ }
-    ensures { λ r. ⌜ Reads (reading First (now (text .entry)) (countsFormat 3) 0) (now (front .entry)) (now (front .exit)) r ⌝ }
-{
-    let step = read_literal(text, 0, b"level scenes places\n", Part::First);
-    match step {
-        Step::Refused(x) => Step::Refused(x),
-        Step::Next(e) => read_row(text, e, counts_row(3), front, Part::First),
-    }
-}
-
-// The block of the leading automaton.
-fn read_leading(text: &[u8], at: usize, s: usize, n: usize, rows: &mut [u16]) -> Step
-    requires { ⌜ (at ≤ length (now text)) × (s ≤ 32) × (n ≤ 32) × (n * (s + 2) ≤ length (now rows)) ⌝ }
-    ensures { λ r. ⌜ Reads (reading First (now (text .entry)) (leadingFormat s n) at) (now (rows .entry)) (now (rows .exit)) r ⌝ }
-{
-    let step = read_head(text, at, b"place loops", s);
-    match step {
-        Step::Refused(x) => Step::Refused(x),
-        Step::Next(e) => read_rows(text, e, leading_row(s, n), 0, n, rows, Part::First),
-    }
-}
-
-// The first two blocks.
-pub fn read_front(text: &[u8], front: &mut [u16]) -> Step
-    requires { ⌜ 1091 ≤ length (now front) ⌝ }
-    ensures { λ r. ⌜ Reads (reading First (now (text .entry)) (frontFormat 3) 0) (now (front .entry)) (now (front .exit)) r ⌝ }
-{
-    let step = read_counts(text, front);
-    match step {
-        Step::Refused(x) => Step::Refused(x),
-        Step::Next(e) => {
-            let s = wide16(front[1]);
-            let n = wide16(front[2]);
-            read_leading(text, e, s, n, &mut front[3..])
-        }
-    }
-}
-
-// The rows of the progress automata. Their sizes are in the front.
-fn read_parts(text: &[u8], at: usize, front: &[u16], s: usize, n: usize, parts: &mut [u16]) -> Step
-    requires { ⌜ (at ≤ length (now text)) × Fits (frontFormat 3) (now front) × (s ≡ lettersIn (now front)) × (n ≡ statesIn (now front)) × (35840 ≤ length (now parts)) ⌝ }
-    ensures { λ r. ⌜ Reads (reading First (now (text .entry)) (each n (λ q. partFormat s (sizeIn (now (front .entry)) q) q)) at) (now (parts .entry)) (now (parts .exit)) r ⌝ }
-{
-    let mut p = at;
-    let mut w = 0;
-    let mut q = 0;
-    while q < n {
-        let k = wide16(front[3 + q * (s + 2) + 1]);
-        let step = read_rows(
-            text,
-            p,
-            progress_row(s, q, k),
-            1,
-            k,
-            &mut parts[w..],
-            Part::First,
-        );
-        match step {
-            Step::Refused(x) => {
-                return Step::Refused(x);
-            }
-            Step::Next(e) => {
-                p = e;
-            }
-        }
-        w += k * (s + 3);
-        q += 1;
-    }
-    Step::Next(p)
-}
-
-// The block of the progress automata.
-pub fn read_progress(
+// The last block, after the others, whose numbers are the front.
+fn read_rest(
     text: &[u8],
     at: usize,
     front: &[u16],
     s: usize,
     n: usize,
-    parts: &mut [u16],
-) -> Step
-    requires { ⌜ (at ≤ length (now text)) × Fits (frontFormat 3) (now front) × (s ≡ lettersIn (now front)) × (n ≡ statesIn (now front)) × (35840 ≤ length (now parts)) ⌝ }
-    ensures { λ r. ⌜ Reads (reading First (now (text .entry)) (partsFormat (now (front .entry))) at) (now (parts .entry)) (now (parts .exit)) r ⌝ }
+    m: usize,
+    cells: usize,
+    out: &mut [u8],
+) -> Written
+    requires { ⌜ (at ≤ length (now text)) × Fits frontFormat (now front) × (s ≡ lettersIn (now front)) × (n ≡ statesIn (now front)) × (m ≡ timed (levelIn (now front)) s) ⌝ }
+    ensures { λ r. ⌜ ((rows : List ℕ) → Packs (ended (now (text .entry)) (record { front = now (front .entry); timings = rows; next = at }) (reading First (now (text .entry)) (partsFormat (now (front .entry))) at)) cells (now (out .entry)) (now (out .exit)) r) ⌝ }
 {
-    let step = read_head(text, at, b"place loop mark", s);
+    let mut parts = [0u16; 35840];
+    let step = read_progress(text, at, front, s, n, &mut parts);
     match step {
-        Step::Refused(x) => Step::Refused(x),
-        Step::Next(e) => read_parts(text, e, front, s, n, parts),
+        Step::Refused(r) => Written::Refused(r),
+        Step::Next(e) => {
+            let len = row_count(front, s, n) * (s + 3);
+            pack_numbers(text, e, front, &parts[..len], s, n, m, cells, out)
+        }
+    }
+}
+
+// All that follows the blocks before the last, which were read.
+fn read_on(
+    text: &[u8],
+    at: usize,
+    front: &[u16],
+    rows: &[u16],
+    out: &mut [u8],
+    seconds: &mut [u16],
+) -> Levelled
+    requires { ⌜ Opened (now text) (now front) (now rows) at ⌝ }
+    ensures { λ r. ⌜ SheetRead (sheetIn (now (text .entry))) (now (out .entry)) (now (seconds .entry)) (now (out .exit)) (now (seconds .exit)) r ⌝ }
+{
+    let level = wide16(front[0]);
+    let s = wide16(front[1]);
+    let n = wide16(front[2]);
+    let m = timed(level, s);
+    let len = 3 + n * (s + 2);
+    let answer = read_rest(text, at, &front[..len], s, n, m, seconds.len(), out);
+    match answer {
+        Written::Refused(r) => Levelled::Refused(r),
+        Written::Filled(filled) => {
+            fill_seconds(rows, m, seconds);
+            Levelled::Filled(level, filled)
+        }
+    }
+}
+
+// Reads the text of a sheet: the packed sheet to the start of the out slice and, at level four, the seconds of the letters to the start of
+// `seconds`. At level three that slice is neither judged nor changed.
+pub fn read(text: &[u8], out: &mut [u8], seconds: &mut [u16]) -> Levelled
+    ensures { λ r. ⌜ SheetRead (sheetIn (now (text .entry))) (now (out .entry)) (now (seconds .entry)) (now (out .exit)) (now (seconds .exit)) r ⌝ }
+{
+    let mut front = [0u16; 1091];
+    let mut rows = [0u16; 64];
+    let step = read_blocks(text, &mut front, &mut rows);
+    match step {
+        Step::Refused(r) => Levelled::Refused(r),
+        Step::Next(e) => read_on(text, e, &front, &rows, out, seconds),
     }
 }

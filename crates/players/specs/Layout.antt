@@ -6,7 +6,7 @@ use Prim.Native.Nat.{ℕ, _/_, _%_, _^_}
 use lib.Dec.{ltb}
 use lib.ListN.{length, getD}
 use Rattle.slices.specs.declared.Part.{Part}
-use Rattle.slices.specs.declared.Part.the-variants.{First, Second, Opening, Loop, Out, Work, Cursor}
+use Rattle.slices.specs.declared.Part.the-variants.{First, Second, Opening, Loop, Out, Work, Cursor, Seconds}
 use Rattle.fdfa.specs.Acceptance.{Verdict}
 use Rattle.slices.specs.Refusals.{Result, given, refused}
 use Rattle.slices.specs.Filling.{written}
@@ -29,6 +29,7 @@ partNumber Loop = 3
 partNumber Out = 4
 partNumber Work = 5
 partNumber Cursor = 6
+partNumber Seconds = 7
 
 -- 0, accepted 1 or rejected 0, i, j, the leading state, the progress state; or number, part, place of the refusal.
 abbrev pub verdictNumbers : Result Verdict → List ℕ

@@ -28,6 +28,7 @@ fn part_number(part: Part) -> u64
         Part::Out => 4,
         Part::Work => 5,
         Part::Cursor => 6,
+        Part::Seconds => 7,
     }
 }
 

@@ -6,3 +6,5 @@ pub mod Scans
 pub mod Tests
 pub mod LassoLetters
 pub mod Capped
+pub mod Timings
+pub mod Halved

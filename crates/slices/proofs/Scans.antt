@@ -1,11 +1,12 @@
 -- What a scan says, from the place that it stopped at. Assumes nothing.
-use mathlib.Core.Path.{_≡_, refl, sym, _∙_}
+use mathlib.Core.Path.{_≡_, refl, ap, sym, _∙_}
 use mathlib.Core.Bool.{Bool, true, false, _||_, true≢false}
 use mathlib.Core.List.{List}
 use Prim.Native.Nat.{ℕ, _+_, _≤_, _<_}
 use native.Mathlib.Omega.{arith}
 use lib.Dec.{ltb, leb}
 use lib.ListN.{getD}
+use borrow.Author.Count.{below-more}
 use borrow.Author.Tests.{lt-ltb, le-ltb, le-leb, lt-leb, ltb-false, leb-false}
 use Rattle.slices.specs.declared.Part.{Part}
 use Rattle.slices.specs.Refusals.{sound, faultOf}
@@ -35,6 +36,34 @@ from-limit low limit x h = by (ltb x low) refl
     by : (t : Bool) → ltb x low ≡ t → outside low limit x ≡ true
     by true e = rw e
     by false e = rw (e, le-leb limit x h)
+
+-- A scan that has passed i of `count` bytes from `at` on: none of them is outside.
+pub record Passed (low limit : ℕ) (b : List ℕ) (at count i : ℕ) : Type 0 where
+  pub upto : i ≤ count
+  pub inner : (k : ℕ) → k < i → outside low limit (getD b (at + k) 0) ≡ true → ⊥
+
+pub passed-none : (low limit : ℕ) (b : List ℕ) (at count : ℕ) → Passed low limit b at count 0
+passed-none low limit b at count = record { upto = omega arith; inner = λ k h e. absurd (omega arith) }
+
+module _ {low limit : ℕ} {b : List ℕ} {at count i : ℕ} (s : Passed low limit b at count i) where
+  -- the next byte, which is read at j: outside it is the first that is, else it is passed
+  module _ {j : ℕ} {t : Bool} (h : i < count) (e : at + i ≡ j) (d : t ≡ outside low limit (getD b j 0)) where
+    next-is : outside low limit (getD b (at + i) 0) ≡ t
+    next-is = ap (λ (n : ℕ). outside low limit (getD b n 0)) e ∙ sym d
+
+    pub passed-stops : t ≡ true → i ≡ firstOutside low limit b at count
+    unfolding firstOutside
+    passed-stops here = sym (least-is count (λ k. outside low limit (getD b (at + k) 0)) i h (s .inner) (next-is ∙ here))
+
+    pub passed-more : t ≡ false → Passed low limit b at count (i + 1)
+    passed-more here = record {
+      upto = omega arith;
+      inner = below-more (λ k. outside low limit (getD b (at + k) 0) ≡ true → ⊥) i (s .inner) (λ o. true≢false (sym o ∙ (next-is ∙ here)));
+    }
+
+  pub passed-all : count ≤ i → count ≡ firstOutside low limit b at count
+  unfolding firstOutside
+  passed-all h = sym (least-none count (λ k. outside low limit (getD b (at + k) 0)) (λ k l. s .inner k (omega arith)))
 
 -- a scan that stops at the end passed bytes that are all inside
 pub all-inside : (low limit : ℕ) (b : List ℕ) (at count : ℕ) → count ≤ firstOutside low limit b at count → (k : ℕ) → k < count → (low ≤ getD b (at + k) 0) × (getD b (at + k) 0 < limit)

@@ -5,3 +5,5 @@ pub mod Extremes
 pub mod Scans
 pub mod LassoLetters
 pub mod Capped
+pub mod Seconds
+pub mod Halves

@@ -1,4 +1,4 @@
--- The first of some bytes that is out of a range. Assumes nothing.
+-- The first of some cells that is out of a range. Assumes nothing.
 use mathlib.Core.Bool.{Bool, _||_}
 use mathlib.Core.List.{List}
 use Prim.Native.Nat.{ℕ, _+_}
@@ -12,7 +12,7 @@ use Rattle.slices.specs.Extremes.{least}
 abbrev pub outside : ℕ → ℕ → ℕ → Bool
 outside low limit c = ltb c low || leb limit c
 
--- How many of `count` bytes from `at` on come before the first that is outside.
+-- How many of `count` cells from `at` on come before the first that is outside.
 unfoldable pub firstOutside : ℕ → ℕ → List ℕ → ℕ → ℕ → ℕ
 firstOutside low limit b at count = least count (λ i. outside low limit (getD b (at + i) 0))
 

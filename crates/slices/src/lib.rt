@@ -3,15 +3,20 @@ mod copying; // copying.rt: copies of a slice
 mod counting; // counting.rt: a sum that stops at the largest number
 mod scanning; // scanning.rt: the first byte of a slice that is out of a range
 mod lassos; // lassos.rt: the letters of a lasso
+mod timed; // timed.rt: the seconds of letters
+mod halving; // halving.rt: numbers of 16 bits as bytes
 
 pub use copying::copy;
 pub use copying::narrow_copy;
 pub use counting::sum;
+pub use halving::half_bytes;
+pub use halving::halves;
 pub use lassos::check_lasso;
 pub use lassos::check_period;
 pub use scanning::first_outside;
 pub use scanning::first_unknown;
 pub use scanning::is_outside;
+pub use timed::check_seconds;
 ghost use mathlib.Core.Path.{_≡_};
 ghost use Prim.Native.Nat.{_<_};
 
@@ -24,6 +29,7 @@ pub enum Part {
     Out,
     Work,
     Cursor,
+    Seconds,
 }
 
 // Why a call gives no answer: the number of the reason, what it concerns, and the place there.
@@ -42,6 +48,12 @@ pub enum Written {
 // Whether a lasso is one over some letters, or the refusal.
 pub enum Letters {
     Known,
+    Refused(Refusal),
+}
+
+// Whether letters have their seconds, or the refusal.
+pub enum Timing {
+    Good,
     Refused(Refusal),
 }
 

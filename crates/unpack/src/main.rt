@@ -1,4 +1,7 @@
-// Reads a packed sheet from the file SOURCE and writes its text to the file TARGET, or prints the refusal.
+// Reads a packed sheet from the file SHEET and its seconds from the file SECONDS, and writes the text to the file TEXT, or prints the refusal.
 fn main() {
-    conversion::run(conversion::Way::Unpack, b"usage: unpack SOURCE TARGET\n");
+    conversion::run(
+        conversion::Way::Unpack,
+        b"usage: unpack SHEET TEXT [SECONDS]\n",
+    );
 }

@@ -15,12 +15,12 @@ const KINDS: [&str; 4] = ["refused", "contained", "missing", "missing, all place
 
 fn main() -> ExitCode {
     let mut search = Search::default();
-    program_runs::main(&KINDS, |random| {
+    program_runs::main(1, &KINDS, |random| {
         let (_, first, second) = sheet_pair(random);
         let due = printed::comparison(&mut search, &first, &second);
         read_back(&mut search, &first, &second, &due)?;
         let kind = kind(&due).to_string();
-        Ok(Run { files: [("first.sheet", Some(first)), ("second.sheet", Some(second))], due, kind })
+        Ok(Run::reading([("first.sheet", Some(first)), ("second.sheet", Some(second))], due, kind))
     })
 }
 

@@ -2,7 +2,7 @@
 //!
 //! driver_lines stored STDIN STDOUT                        a stored input and output agree with what is due
 //! driver_lines random COUNT [SEED] [--driver PATH]        lines at random through one run of the driver (else FDFA_DRIVER is its path)
-//! driver_lines changes [--driver PATH]                    every change of one byte of a sheet's text, a show's and an automaton's, and long shows, in the same way
+//! driver_lines changes [--driver PATH]                    every change of one byte of a sheet's text at both levels, a show's and an automaton's, and long shows, in the same way
 //! driver_lines imports [--driver PATH]                    automata at random, imported, and verdicts on their sheets, in the same way
 //! driver_lines passes [--driver PATH]                     prefixes at random, cut into parts in every way, and verdicts on them, in the same way
 //! driver_lines rows [STDIN STDOUT]                        the rows to store, each with what is due; or both into two files
@@ -20,7 +20,7 @@ use outside::driver::long_shows::long_lines;
 use outside::driver::random_line::Sent;
 use outside::driver::report::Report;
 use outside::driver::session::{hold, random_lines};
-use outside::driver::{rows, stand_in, wrong_pass};
+use outside::driver::{rows, stand_in, wrong_level, wrong_pass};
 use outside::inclusion::Search;
 use std::collections::BTreeMap;
 use std::process::{Command, ExitCode};
@@ -213,15 +213,17 @@ fn find_wrong_drivers() -> Result<(), String> {
     Ok(())
 }
 
-/// Every outcome that the table of calls lists is met often, and no other.
+/// Every outcome that the table of calls lists is met often, and no other; every wrong reader and writer is found.
 fn cover() -> Result<(), String> {
     const LINES: usize = 150_000;
     const LEAST: usize = 50;
     let began = Instant::now();
     let mut coverage = Coverage::default();
+    let mut not_found: Vec<&str> = wrong_level::kinds().collect();
     let (mut sent_bytes, mut due_bytes) = (0, 0);
     for sent in random_lines(SEED, LINES) {
         coverage.add(&sent.line, &sent.due);
+        not_found.retain(|kind| wrong_level::wrong(kind, &sent.line).is_none_or(|printed| printed == sent.due));
         sent_bytes += sent.line.len();
         due_bytes += sent.due.len();
     }
@@ -230,7 +232,8 @@ fn cover() -> Result<(), String> {
         "{LINES} lines, {sent_bytes} bytes, answers of {due_bytes} bytes ({:.1} s)",
         began.elapsed().as_secs_f64()
     );
-    let faults = coverage.faults(LEAST);
+    let mut faults = coverage.faults(LEAST);
+    faults.extend(not_found.iter().map(|kind| format!("a driver with the fault `{kind}` was not found")));
     if faults.is_empty() {
         return Ok(());
     }

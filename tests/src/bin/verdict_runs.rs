@@ -37,7 +37,7 @@ const KINDS: [&str; 21] = [
 ];
 
 fn main() -> ExitCode {
-    program_runs::main(&KINDS, |random| {
+    program_runs::main(1, &KINDS, |random| {
         let sheet = sheet_file(random);
         let letters = sheet.as_ref().and_then(|bytes| bytes.first()).map_or(1, |&letters| letters as usize);
         let text = show_file(random, letters.clamp(1, MOST));
@@ -47,7 +47,7 @@ fn main() -> ExitCode {
             (_, None) if due.ends_with("11 second 0\n") => "no show".to_string(),
             _ => kind(&due)?,
         };
-        Ok(Run { files: [("first.sheet", sheet), ("show.txt", text)], due, kind })
+        Ok(Run::reading([("first.sheet", sheet), ("show.txt", text)], due, kind))
     })
 }
 

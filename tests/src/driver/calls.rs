@@ -113,16 +113,21 @@ pub const CALLS: &[Call] = &[
         answer: notation::read,
         random: notation::random_read,
         outcomes: &[
-            &["filled", "refused 2 first", "refused 3 first", "refused 4 first", "refused 5 first", "refused 6 first"],
-            &["refused 10 first", "refused 11 first", "refused 12 first", "refused 21 out"],
+            &["filled 3", "filled 4", "refused 2 first", "refused 3 first", "refused 4 first", "refused 5 first"],
+            &["refused 6 first", "refused 10 first", "refused 11 first", "refused 12 first", "refused 14 first"],
+            &["refused 21 out", "refused 21 seconds"],
         ],
-        lent: OUT,
+        lent: &[Part::Out, Part::Seconds],
     },
     Call {
         name: "write",
         answer: notation::write,
         random: notation::random_write,
-        outcomes: &[&["filled"], FIRST, &["refused 21 out"]],
+        outcomes: &[
+            &["filled", "refused 10 first"],
+            FIRST,
+            &["refused 21 seconds", "refused 14 seconds", "refused 21 out"],
+        ],
         lent: OUT,
     },
     Call {

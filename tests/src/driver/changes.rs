@@ -1,19 +1,20 @@
-//! Every change of one byte of some texts: 01's text of sheet B for `read`, a show's text of ten lines for `read-show`, and for `import`
-//! automata of five places, of twelve, and of twelve scenes.
+//! Every change of one byte of some texts: sheet B's at level three, which is 01's, and at level four for `read`, a show's text of ten lines
+//! for `read-show`, and for `import` automata of five places, of twelve, and of twelve scenes.
 
 use crate::driver::calls::answer;
 use crate::driver::line::print;
 use crate::driver::random_line::Sent;
-use crate::driver::rows::{FIVE_PLACES, TEN_LINES, TEXT_OF_B};
+use crate::driver::rows::{FIVE_PLACES, FOUR_OF_B, TEN_LINES, TEXT_OF_B};
 use crate::inclusion::Search;
 
 /// Each text with its call, and slices that have room for one cell more than it fills.
-const TEXTS: [(&str, &str, &str); 5] = [
-    ("read", TEXT_OF_B, "12*9"),
+const TEXTS: [(&str, &str, &str); 6] = [
+    ("read", TEXT_OF_B, "12*9 3*8"),
     ("read-show", TEN_LINES, "5*8 6*9"),
     ("import", FIVE_PLACES, "168*9"),
     ("import", TWELVE_PLACES, "603*9"),
     ("import", TWELVE_SCENES, "42*9"),
+    ("read", FOUR_OF_B, "12*9 3*8"),
 ];
 
 /// Texts with numbers of two digits.
@@ -140,5 +141,41 @@ mod tests {
     fn the_text_of_b_has_as_many_changes_that_are_read_as_were_once_counted() {
         let [changes, ..] = outcomes(0);
         assert_eq!((changes["filled"], changes.values().sum::<usize>()), (100, 94 * 256));
+    }
+
+    /// Counted by hand, from the seconds 7 and 120.
+    #[test]
+    fn the_changes_of_level_four_have_the_outcomes_counted_by_hand() {
+        // Every byte as itself; two marks and four next places turned; 7 as 1 to 9, and 120 digit by digit, no zero before the others.
+        let read = 118 + 2 + 4 + 8 + (8 + 9 + 9);
+        // The level as 0, 1, 2, 5 to 9, or a digit for the space after it, which makes three digits; the same for scenes and loops.
+        let (level, scenes, places, loops) = (8 + 10, 1 + 10, 1, 1 + 10);
+        // Next places above 0 in the second block, above 1 in the third; there a digit for what stands after a 1; and loops 1, which makes
+        // the third block's first 1 too large.
+        let next = 2 * 9 + 4 * 8 + 3 * 10 + 1;
+        let marks = 2 * 8 + 10;
+        // Two scenes, three places, two loop places, and a digit for the space after loop place 1.
+        let turn = 2 * 9 + 3 * 9 + 2 * 9 + 10;
+        let zero = 1;
+        let rest = 118 * 256 - read - level - scenes - places - loops - next - marks - turn - zero;
+        let outcomes = outcomes(5);
+        let changes = [
+            ("filled", read),
+            ("refused 2", scenes),
+            ("refused 3", places),
+            ("refused 4", loops),
+            ("refused 5", next),
+            ("refused 6", marks),
+            ("refused 10", level),
+            ("refused 11", rest),
+            ("refused 12", turn),
+            ("refused 14", zero),
+        ];
+        assert_eq!(outcomes[0], counts(changes));
+        // 17 to 97 and 70 to 79.
+        assert_eq!((outcomes[1]["filled"], outcomes[1].values().sum::<usize>()), (9 + 10, 119 * 256));
+        // 20, 10 and 12.
+        assert_eq!((outcomes[2]["filled"], outcomes[2].values().sum::<usize>()), (3, 118));
+        assert_eq!(outcomes[3], counts([("refused 11", 118)]));
     }
 }

@@ -16,6 +16,9 @@ const APART: &str = ", waits and ends above 0, no two alike";
 /// Added where a pass reached a state above 0, or met a letter out of range in a later part than the first.
 const ABOVE_0: &str = ", above 0";
 const LATER_PART: &str = ", in a later part";
+/// Added where a text was to be written at that level.
+const LEVEL_3: &str = ", level three";
+const LEVEL_4: &str = ", level four";
 
 #[derive(Default)]
 pub struct Coverage {
@@ -35,8 +38,8 @@ impl Coverage {
             Some(call) => match outcome(call, &due) {
                 Some(outcome) => {
                     self.count(call.name, outcome);
-                    let room = room(call, &due).filter(|_| needs_room(outcome));
-                    for more in room.into_iter().chain(apart(&due)).chain(passed(line, &due)) {
+                    let room = room(call, line, &due).filter(|_| needs_room(outcome));
+                    for more in room.into_iter().chain(apart(&due)).chain(passed(line, &due)).chain(level(line)) {
                         self.count(call.name, &format!("{outcome}{more}"));
                     }
                 }
@@ -60,13 +63,15 @@ impl Coverage {
                     let room = if outcome.starts_with("refused") { ONE_TOO_FEW } else { JUST_ENOUGH };
                     due.push((call.name, format!("{outcome}{room}")));
                 }
-                let more = match outcome {
-                    "missing" | "found" => APART,
-                    "reached" => ABOVE_0,
-                    "unknown" => LATER_PART,
+                let more: &[&str] = match (call.name, outcome) {
+                    (_, "missing" | "found") => &[APART],
+                    (_, "reached") => &[ABOVE_0],
+                    (_, "unknown") => &[LATER_PART],
+                    ("write", "refused 14 seconds" | "refused 21 seconds") => &[LEVEL_4],
+                    ("write", outcome) if outcome != "refused 10 first" => &[LEVEL_3, LEVEL_4],
                     _ => continue,
                 };
-                due.push((call.name, format!("{outcome}{more}")));
+                due.extend(more.iter().map(|more| (call.name, format!("{outcome}{more}"))));
             }
         }
         let met = |key: &(&'static str, String)| self.counts.get(key).copied().unwrap_or(0);
@@ -85,19 +90,29 @@ fn outcome(call: &Call, due: &str) -> Option<&'static str> {
 
 fn needs_room(outcome: &str) -> bool {
     let refused = ["refused 21", "refused 22", "refused 23"].iter().any(|refused| outcome.starts_with(refused));
-    refused || ["filled", "missing", "found"].contains(&outcome)
+    refused || ["filled", "filled 3", "filled 4", "missing", "found"].contains(&outcome)
 }
 
 /// Whether the lent slices that the answer speaks of are exactly as long as needed, or the one refused is one cell too short.
-fn room(call: &Call, due: &str) -> Option<&'static str> {
+fn room(call: &Call, line: &[u8], due: &str) -> Option<&'static str> {
     let (answer, printed) = due.split_once(" | ")?;
     let lengths: Vec<usize> = printed.split(' ').map(length).collect();
     let words: Vec<&str> = answer.split(' ').collect();
     let number = |at: usize| words[at].parse::<usize>().ok();
     match words[0] {
+        "refused" if (call.name, words[2]) == ("write", "seconds") => {
+            let seconds = line.split(|&byte| byte == b' ').nth(3)?;
+            (length(&String::from_utf8_lossy(seconds)) + 1 == number(3)?).then_some(ONE_TOO_FEW)
+        }
         "refused" => {
             let at = call.lent.iter().position(|part| part.name() == words[2])?;
             (lengths[at] + 1 == number(3)?).then_some(ONE_TOO_FEW)
+        }
+        "filled" if call.name == "read" => {
+            // The sheet's first cell is how many seconds level four needs.
+            let letters = printed.split(',').next()?.rsplit('*').next()?;
+            let needed = [number(2)?, if words[1] == "4" { letters.parse().ok()? } else { lengths[1] }];
+            (lengths == needed).then_some(JUST_ENOUGH)
         }
         "filled" => (0..lengths.len()).all(|at| number(1 + at) == Some(lengths[at])).then_some(JUST_ENOUGH),
         "missing" | "found" => ((lengths[0], lengths[1]) == (number(2)?, number(3)?)).then_some(JUST_ENOUGH),
@@ -129,9 +144,18 @@ fn passed(line: &[u8], due: &str) -> Option<&'static str> {
     }
 }
 
-/// How many cells a printed slice has.
+/// The level that a line of writing tells.
+fn level(line: &[u8]) -> Option<&'static str> {
+    match line.get(..8)? {
+        b"write 3 " => Some(LEVEL_3),
+        b"write 4 " => Some(LEVEL_4),
+        _ => None,
+    }
+}
+
+/// How many cells a slice has, as it is spelled.
 fn length(word: &str) -> usize {
-    let count = |item: &str| item.split_once('*').map_or(1, |(count, _)| count.parse().expect("it was printed"));
+    let count = |item: &str| item.split_once('*').map_or(1, |(count, _)| count.parse().expect("it was taken"));
     if word == "-" {
         0
     } else {

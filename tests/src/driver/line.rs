@@ -35,6 +35,10 @@ impl Cell for u8 {
     const LONGEST: usize = 300_000;
 }
 
+impl Cell for u16 {
+    const LONGEST: usize = 65_536;
+}
+
 impl Cell for u64 {
     const LONGEST: usize = 16_384;
 }
@@ -141,6 +145,9 @@ mod tests {
         }
         assert_eq!(slice::<u8>(b"300000*7").map(|cells| cells.len()), Ok(300_000));
         assert_eq!(slice::<u8>(b"300000*7,1"), Err(NoCall::Long));
+        assert_eq!(slice::<u16>(b"65536*65535").map(|cells| cells.len()), Ok(65_536));
+        assert_eq!(slice::<u16>(b"65537*0"), Err(NoCall::Long));
+        assert_eq!(slice::<u16>(b"65536"), Err(NoCall::Wrong));
         assert_eq!(slice::<u64>(b"16384*18446744073709551615").map(|cells| cells.len()), Ok(16_384));
         assert_eq!(slice::<u64>(b"16385*0"), Err(NoCall::Long));
     }

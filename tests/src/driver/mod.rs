@@ -2,10 +2,11 @@
 //!
 //! `line` has the words of a line; `calls` the table of calls and what a line prints; `membership`, `boolean`, `inclusion`, `cursor`,
 //! `notation`, `shows`, `pass` and `imports` answer the calls of their subject and make lines for them at random. `random_line` mixes those
-//! with damaged lines and comments, `changes` has every change of one byte of five texts, `long_shows` shows at the programs' bounds,
+//! with damaged lines and comments, `changes` has every change of one byte of six texts, `long_shows` shows at the programs' bounds,
 //! `imported` automata with verdicts on their sheets, `cuts` prefixes in parts with verdicts on them, `session` sends lines through one run
 //! of the driver, `report` compares what it prints, `coverage` counts the outcomes, and `rows` has the lines that are stored. `stand_in` is
-//! a driver with a fault: `damaged_answer` has those of one field, `wrong_pass` those of a pass.
+//! a driver with a fault: `damaged_answer` has those of one field, `wrong_pass` those of a pass, `wrong_level` those of reading and writing
+//! at two levels.
 
 pub mod boolean;
 pub mod calls;
@@ -25,6 +26,7 @@ pub mod notation;
 pub mod pass;
 pub mod random_automaton;
 pub mod random_line;
+pub mod random_seconds;
 pub mod random_sheets;
 pub mod random_show;
 pub mod random_text;
@@ -33,4 +35,5 @@ pub mod rows;
 pub mod session;
 pub mod shows;
 pub mod stand_in;
+pub mod wrong_level;
 pub mod wrong_pass;

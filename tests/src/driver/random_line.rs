@@ -76,7 +76,7 @@ pub fn contents(random: &mut Random, length: usize) -> Vec<u8> {
 }
 
 /// Cells at random: all alike, some runs, or each for itself unless there are very many.
-fn runs<T: Copy>(random: &mut Random, length: usize, value: fn(&mut Random) -> T) -> Vec<T> {
+pub fn runs<T: Copy>(random: &mut Random, length: usize, value: fn(&mut Random) -> T) -> Vec<T> {
     let longest = match random.below(4) {
         0 => length,
         1 => length / 4,

@@ -2,6 +2,7 @@
 //! can have serve for the texts of shows and of automata too.
 
 use crate::driver::line::Cell;
+use crate::driver::random_seconds::{with_other_level, with_other_seconds};
 use crate::random::Random;
 
 /// Digits of good and bad form, and what may stand beside them: the bytes next to the digits among them.
@@ -60,28 +61,34 @@ pub fn any_text(random: &mut Random) -> (Vec<u8>, usize) {
     (text, random.pick(&places))
 }
 
-/// A sheet's text with a fault (or, by luck, with none): in a number, a byte, a line, or at the end.
+/// A sheet's text with a fault or several (or, by luck, with none): in a number, a byte, a line, at the end, in what level four has more.
 pub fn damaged(random: &mut Random, text: Vec<u8>) -> Vec<u8> {
-    match random.below(8) {
-        0..=4 => with_other_number(random, &text),
-        5 => with_other_byte(random, text),
-        6 => with_other_lines(random, &text),
-        _ => with_other_end(random, text),
-    }
+    with_faults(random, text, |random, text| match random.below(16) {
+        0..=8 => with_other_number(random, &text),
+        9 => with_other_byte(random, text),
+        10 => with_other_lines(random, &text),
+        11 => with_other_end(random, text),
+        12 => with_other_level(text),
+        _ => with_other_seconds(random, text),
+    })
 }
 
 pub fn split(text: &[u8], at: u8) -> Vec<Vec<u8>> {
     text.split(|&byte| byte == at).map(<[u8]>::to_vec).collect()
 }
 
-/// Another number in one row: level, scenes, places; place, loops, next place; place, loop place, mark, next place.
+/// Another number in one row: level, scenes, places; scene, seconds; place, loops, next place; place, loop place, mark, next place.
 fn with_other_number(random: &mut Random, text: &[u8]) -> Vec<u8> {
     let mut lines = split(text, b'\n');
-    let third = lines.iter().rposition(|line| line.starts_with(b"place")).expect("there are three blocks");
-    // After the last line feed stands an empty piece.
-    let last = lines.len() - 2;
-    // The row of values of the first block; the first, the last or any row of the others.
-    let (from, to) = random.pick(&[(1, 1), (3, third - 1), (third + 1, last)]);
+    let is_row = |line: &Vec<u8>| line.first().is_some_and(u8::is_ascii_digit);
+    // The first and the last row of each block.
+    let starts = (0..lines.len()).filter(|&at| is_row(&lines[at]) && (at == 0 || !is_row(&lines[at - 1])));
+    let blocks: Vec<(usize, usize)> =
+        starts.map(|from| (from, from + lines[from..].iter().take_while(|line| is_row(line)).count() - 1)).collect();
+    if blocks.is_empty() {
+        return text.to_vec();
+    }
+    let (from, to) = random.pick(&blocks);
     let any = random.between(from, to);
     let at = random.pick(&[from, to, any]);
     let mut words = split(&lines[at], b' ');

@@ -2,7 +2,7 @@
 
 use crate::driver::calls::{answer, lines};
 use crate::driver::damaged_answer::damages;
-use crate::driver::wrong_pass;
+use crate::driver::{wrong_level, wrong_pass};
 use crate::inclusion::Search;
 use std::io::{self, BufRead, BufWriter, Read, Write};
 use std::process::exit;
@@ -11,8 +11,8 @@ use std::process::exit;
 /// last line feed, no output after some lines, every line again and again, and a program that fails at its end.
 pub const FAULTS: [&str; 8] = ["missing", "double", "swapped", "more", "unended", "short", "babble", "status"];
 
-/// Answers standard input. A fault of a field is put into one line in the middle, a wrong pass into each; `nothing` has no fault, `late`
-/// neither, but prints only when all is read.
+/// Answers standard input. A fault of a field is put into one line in the middle, a wrong pass, reader or writer into each; `nothing` has
+/// no fault, `late` neither, but prints only when all is read.
 pub fn run(fault: Option<&str>) -> Result<(), String> {
     let told = |fault: io::Error| fault.to_string();
     let (mut input, mut output) = (io::stdin().lock(), BufWriter::new(io::stdout().lock()));
@@ -31,11 +31,13 @@ pub fn run(fault: Option<&str>) -> Result<(), String> {
     }
     let mut all = Vec::new();
     input.read_to_end(&mut all).map_err(told)?;
-    let mut printed: Vec<Vec<u8>> = lines(&all).map(|line| wrong_pass::answer(fault, line, &mut search)).collect();
+    let is_level = wrong_level::kinds().any(|kind| kind == fault);
+    let answer = if is_level { wrong_level::answer } else { wrong_pass::answer };
+    let mut printed: Vec<Vec<u8>> = lines(&all).map(|line| answer(fault, line, &mut search)).collect();
     let middle = printed.len() / 2;
     match fault {
         "nothing" | "late" | "status" | "unended" => {}
-        kind if wrong_pass::KINDS.contains(&kind) => {}
+        kind if is_level || wrong_pass::KINDS.contains(&kind) => {}
         "missing" => drop(printed.remove(middle)),
         "double" => printed.insert(middle, printed[middle].clone()),
         "swapped" => {

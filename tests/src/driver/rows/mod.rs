@@ -12,6 +12,9 @@ mod searches;
 mod shows;
 mod standings;
 mod texts;
+mod timed_edits;
+mod timed_reading;
+mod timed_writing;
 mod tries;
 
 use crate::driver::calls::{answer, lines};
@@ -22,6 +25,7 @@ use crate::rows::{complemented, A, B, C, D, E, HALL, LEFT, RIGHT};
 pub use import_edits::FIVE_PLACES;
 pub use shows::TEN_LINES;
 pub use texts::TEXT_OF_B;
+pub use timed_edits::FOUR_OF_B;
 
 pub struct Row {
     pub line: String,
@@ -41,6 +45,9 @@ pub fn rows() -> Vec<Row> {
     rows.extend(import_edits::rows());
     rows.extend(import_faults::rows());
     rows.extend(passes::rows());
+    rows.extend(timed_reading::rows());
+    rows.extend(timed_edits::rows());
+    rows.extend(timed_writing::rows());
     rows
 }
 
@@ -64,7 +71,7 @@ fn note(text: &str) -> Row {
     Row { line: format!("# {text}"), stated: format!("# {text}") }
 }
 
-/// A row in which sheets and texts may stand by name, complements too: `verdict B - 0`, `verdict co-B - 0`, `read B.txt 11*9`.
+/// A row in which sheets and texts may stand by name, complements too: `verdict B - 0`, `verdict co-B - 0`, `read B.txt 11*9 -`, `read B4.txt 11*9 2*8`.
 fn row(line: &str, stated: &str) -> Row {
     let words: Vec<String> = line.split(' ').map(expanded).collect();
     Row { line: words.join(" "), stated: stated.to_string() }
@@ -98,7 +105,7 @@ fn expanded(word: &str) -> String {
     if let Some((_, sheet)) = sheets.iter().find(|(known, _)| *known == name) {
         return if turned { print(&complemented(sheet)) } else { print(sheet) };
     }
-    match texts::TEXTS.iter().find(|(name, _)| *name == word) {
+    match texts::TEXTS.iter().chain(&[("B4.txt", FOUR_OF_B)]).find(|(name, _)| *name == word) {
         Some((_, text)) => print(text.as_bytes()),
         None => word.to_string(),
     }
@@ -120,7 +127,7 @@ fn plain(letters: usize, states: usize, size: usize, mark: u8) -> String {
 mod tests {
     use super::*;
     use crate::driver::coverage::Coverage;
-    use crate::driver::wrong_pass;
+    use crate::driver::{wrong_level, wrong_pass};
 
     #[test]
     fn the_independent_implementation_prints_what_is_stated() {
@@ -147,6 +154,17 @@ mod tests {
         for kind in wrong_pass::KINDS {
             let found = |row: &Row| wrong_pass::answer(kind, row.line.as_bytes(), &mut search) != row.stated.as_bytes();
             assert!(rows().iter().any(found), "{kind}");
+        }
+    }
+
+    #[test]
+    fn every_wrong_reader_and_writer_is_found() {
+        let rows = rows();
+        for kind in wrong_level::kinds() {
+            let found = |row: &Row| {
+                wrong_level::wrong(kind, row.line.as_bytes()).is_some_and(|printed| printed != row.stated.as_bytes())
+            };
+            assert!(rows.iter().any(found), "{kind}");
         }
     }
 

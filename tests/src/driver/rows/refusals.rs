@@ -22,7 +22,7 @@ const FAULTS: [(&str, &str, &str); 14] = [
 ];
 
 /// The calls that take a packed sheet: where it stands, the part that is refused, and the lent slices, which are not changed.
-const SHEET_CALLS: [(&str, &str, &str); 12] = [
+const SHEET_CALLS: [(&str, &str, &str); 13] = [
     ("check ?", "first", ""),
     ("verdict ? 9 -", "first", ""),
     ("complement ? 9*7", "first", " | 9*7"),
@@ -33,7 +33,8 @@ const SHEET_CALLS: [(&str, &str, &str); 12] = [
     ("compare ? A 2*7 3*8 1*9", "first", " | 2*7 3*8 9"),
     ("compare C ? 2*7 3*8 1*9", "second", " | 2*7 3*8 9"),
     ("emptiness ? 2*7 3*8 1*9", "first", " | 2*7 3*8 9"),
-    ("write ? 9*7", "first", " | 9*7"),
+    ("write 3 ? 7 9*7", "first", " | 9*7"),
+    ("write 4 ? 0 9*7", "first", " | 9*7"),
     ("pass ? 0,9 - 255", "first", ""),
 ];
 
@@ -89,8 +90,8 @@ fn others() -> Vec<Row> {
         ("number - 0", "refused 11 first 0"),
         ("number 49 1", "refused 11 first 1"),
         ("text reading: 21; text writing: 21", ""),
-        ("read B.txt 10*9", "refused 21 out 11 | 10*9"),
-        ("write B 93*9", "refused 21 out 94 | 93*9"),
+        ("read B.txt 10*9 2*8", "refused 21 out 11 | 10*9 2*8"),
+        ("write 3 B 2*8 93*9", "refused 21 out 94 | 93*9"),
     ])
 }
 
@@ -139,8 +140,8 @@ fn orders() -> Vec<Row> {
         ("verdict B 2 2", "refused 9 opening 0"),
         ("order: the sheet, the text before 21", ""),
         ("complement 2,1,1,0,0,0,0,2 -", "refused 6 first 7 | -"),
-        ("write 2,1,1,0,0,0,0,2 -", "refused 6 first 7 | -"),
-        ("read 108,101 -", "refused 11 first 2 | -"),
+        ("write 3 2,1,1,0,0,0,0,2 - -", "refused 6 first 7 | -"),
+        ("read 108,101 - -", "refused 11 first 2 | - -"),
         ("order: first, second, 7, 20, 21", ""),
         ("intersection 2,1,1,0,0,0,0,2 9 -", "refused 6 first 7 | -"),
         ("intersection C 2,1,1,0,0,0,0,2 -", "refused 6 second 7 | -"),

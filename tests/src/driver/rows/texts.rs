@@ -1,4 +1,5 @@
-//! The sheet as text: 01's text, its refusals and their places, texts that end early, and numbers.
+//! The sheet as text, level three: 01's text, its refusals and their places, texts that end early, and numbers. The seconds slice, which
+//! F-5 lends too, is another from row to row and never changed. Level four is in `timed_reading` and `timed_writing`.
 
 use super::{edited, note, plain, row, table, Row};
 use crate::driver::line::print;
@@ -15,14 +16,26 @@ pub const TEXTS: [(&str, &str); 5] = [
     ),
 ];
 
+/// Those sheets and their lengths.
+pub const PACKED: [(&str, usize); 5] = [
+    ("2,2*1,4*0,1", 8),
+    ("2,1,2,2*0,1,0,2*1,0,1", 11),
+    ("2*1,2,0,1,0,1,0", 8),
+    ("1,2,3*1,2*0,1,0,1", 10),
+    ("1,3,4*1,2,1,3*0,1,2*0", 14),
+];
+
 pub const TEXT_OF_B: &str =
     "level scenes places\n3 2 1\nplace loops s0 s1\n0 2 0 0\nplace loop mark s0 s1\n0 0 0 1 0\n0 1 1 1 1\n";
+
+/// Seconds slices: none, too short for any sheet here, good cells, bad ones.
+const SECONDS: [&str; 7] = ["-", "8", "2*7", "3*0", "2*1000", "65535", "1,999,5*3"];
 
 /// Changes of B's text.
 const EDITS: &[(&str, &str, &str)] = &[
     ("text: 10 for the level", "", ""),
     ("3 2 1", "2 2 1", "10 20"),
-    ("3 2 1", "4 2 1", "10 20"),
+    ("3 2 1", "5 2 1", "10 20"),
     ("3 2 1", "0 2 1", "10 20"),
     ("3 2 1", "259 2 1", "10 20"),
     ("text: 2 for scenes, 3 for places, 4 for loops", "", ""),
@@ -53,7 +66,7 @@ const EDITS: &[(&str, &str, &str)] = &[
     ("text: a good run is judged for range before the byte after it is looked at", "", ""),
     ("3 2 1", "3 40x 1", "2 22"),
     ("3 2 1", "3 4x 1", "11 23"),
-    ("3 2 1", "4x2 1", "10 20"),
+    ("3 2 1", "5x2 1", "10 20"),
     ("3 2 1", "3x2 1", "11 21"),
     ("0 0 0 1 0", "0 0 0 2x0", "5 80"),
     ("text: a run of bad form is 11 at its first byte, its range unjudged", "", ""),
@@ -101,58 +114,61 @@ const EDITS: &[(&str, &str, &str)] = &[
 
 pub fn rows() -> Vec<Row> {
     let mut rows = both_ways();
-    rows.extend(edited(TEXT_OF_B, EDITS, |text, refused| read(text, &format!("{refused} | 11*9"))));
+    rows.extend(edited(TEXT_OF_B, EDITS, read));
     rows.push(note(
         "text: E has three places of one loop place each: below 3 in the second block, below 1 in the third",
     ));
     for (old, new, place) in [("1 1 2\n", "1 1 3\n", 51), ("1 0 1 0", "1 0 1 1", 92)] {
-        rows.push(read(&TEXTS[4].1.replacen(old, new, 1), &format!("refused 5 first {place} | 11*9")));
+        rows.push(read(&TEXTS[4].1.replacen(old, new, 1), &format!("refused 5 first {place}")));
     }
     rows.push(note("text: it ends early: 11 at its length, unless its last number is out of range or of bad form"));
     for length in [0, 1, 19, 20, 21, 22, 25, 26, 31, 43, 44, 46, 51, 52, 73, 74, 83, 84, 93] {
-        rows.push(read(&TEXT_OF_B[..length], &format!("refused 11 first {length} | 11*9")));
+        rows.push(read(&TEXT_OF_B[..length], &format!("refused 11 first {length}")));
     }
     for (end, refusal) in [("40", "2 first 22"), ("4", "11 first 23"), ("1234", "11 first 22"), ("00", "11 first 22")] {
-        rows.push(read(&format!("level scenes places\n3 {end}"), &format!("refused {refusal} | 11*9")));
+        rows.push(read(&format!("level scenes places\n3 {end}"), &format!("refused {refusal}")));
     }
-    rows.push(read("level scenes places\n1234", "refused 11 first 20 | 11*9"));
+    rows.push(read("level scenes places\n1234", "refused 11 first 20"));
     rows.extend(numbers());
     rows
 }
 
-fn read(text: &str, stated: &str) -> Row {
-    row(&format!("read {} 11*9", print(text.as_bytes())), stated)
+/// A text that is refused with room enough.
+fn read(text: &str, refused: &str) -> Row {
+    let seconds = SECONDS[text.len() % SECONDS.len()];
+    row(&format!("read {} 11*9 {seconds}", print(text.as_bytes())), &format!("{refused} | 11*9 {seconds}"))
 }
 
 /// Texts read and written: 01's sheets, and sheets whose counts are 1 or 32.
 fn both_ways() -> Vec<Row> {
     let mut rows = vec![note("01, the sheet as text: reading and writing A to E")];
-    let packed =
-        ["2,2*1,4*0,1", "2,1,2,2*0,1,0,2*1,0,1", "2*1,2,0,1,0,1,0", "1,2,3*1,2*0,1,0,1", "1,3,4*1,2,1,3*0,1,2*0"];
-    for ((name, text), (packed, length)) in TEXTS.iter().zip(packed.iter().zip([8, 11, 8, 10, 14])) {
-        let text = text.as_bytes();
-        rows.push(row(&format!("read {name} {length}*9"), &format!("filled {length} | {packed}")));
+    for (at, ((name, text), (packed, length))) in TEXTS.iter().zip(PACKED).enumerate() {
+        let (text, seconds) = (text.as_bytes(), SECONDS[at]);
+        let read = format!("filled 3 {length} | {packed} {seconds}");
+        rows.push(row(&format!("read {name} {length}*9 {seconds}"), &read));
         let written = format!("filled {} | {},2*9", text.len(), print(text));
-        rows.push(row(&format!("write {packed} {}*9", text.len() + 2), &written));
+        rows.push(row(&format!("write 3 {packed} {seconds} {}*9", text.len() + 2), &written));
     }
     rows.push(note("text: s = 32: read; s = 33: 2; 32 places, 32 loop places"));
-    for [letters, states, size] in [[32, 1, 1], [1, 32, 1], [1, 1, 32], [11, 12, 2]] {
-        let (sheet, text) = (plain(letters, states, size, 1), plain_text(letters, states, size));
+    for (at, [letters, states, size]) in [[32, 1, 1], [1, 32, 1], [1, 1, 32], [11, 12, 2]].into_iter().enumerate() {
+        let (sheet, text, seconds) =
+            (plain(letters, states, size, 1), plain_text(letters, states, size), SECONDS[at + 3]);
         let length = 2 + states + states * letters + states * size * (letters + 1);
         rows.push(row(
-            &format!("write {sheet} {}*9", text.len()),
+            &format!("write 3 {sheet} {seconds} {}*9", text.len()),
             &format!("filled {} | {}", text.len(), print(text.as_bytes())),
         ));
-        rows.push(row(&format!("read {} {length}*9", print(text.as_bytes())), &format!("filled {length} | {sheet}")));
+        let read = format!("filled 3 {length} | {sheet} {seconds}");
+        rows.push(row(&format!("read {} {length}*9 {seconds}", print(text.as_bytes())), &read));
     }
-    rows.push(read(&plain_text(33, 1, 1), "refused 2 first 22 | 11*9"));
-    rows.push(read(&plain_text(1, 33, 1), "refused 3 first 24 | 11*9"));
-    rows.push(read(&plain_text(1, 1, 33), "refused 4 first 43 | 11*9"));
+    rows.push(read(&plain_text(33, 1, 1), "refused 2 first 22"));
+    rows.push(read(&plain_text(1, 33, 1), "refused 3 first 24"));
+    rows.push(read(&plain_text(1, 1, 33), "refused 4 first 43"));
     rows
 }
 
 /// The text of a sheet whose next states are all 0 and whose marks are all 1.
-fn plain_text(letters: usize, states: usize, size: usize) -> String {
+pub fn plain_text(letters: usize, states: usize, size: usize) -> String {
     let names: String = (0..letters).map(|letter| format!(" s{letter}")).collect();
     let zeros = " 0".repeat(letters);
     let mut text = format!("level scenes places\n3 {letters} {states}\nplace loops{names}\n");

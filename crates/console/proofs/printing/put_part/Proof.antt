@@ -1,5 +1,5 @@
 -- `console::printing::put_part` meets its contract. Assumes nothing.
-use Rattle.slices.specs.declared.Part.the-variants.{First, Second, Opening, Loop, Out, Work, Cursor}
+use Rattle.slices.specs.declared.Part.the-variants.{First, Second, Opening, Loop, Out, Work, Cursor, Seconds}
 use Rattle.console.proofs.Printed.{part-shown}
 use borrow.Author.Needs.{needs}
 use Rattle.console.proofs.printing.put_part.Statement.{statement}
@@ -68,6 +68,15 @@ slice-aggregate-put-7 c = search needs
 put-requires-7 : tie.Need-put-requires-7
 put-requires-7 c κs = search needs
 
+enum-told-8 : tie.Need-enum-told-8
+enum-told-8 c = search needs
+
+slice-aggregate-put-8 : tie.Need-slice-aggregate-put-8
+slice-aggregate-put-8 c = search needs
+
+put-requires-8 : tie.Need-put-requires-8
+put-requires-8 c κs = search needs
+
 same-length : tie.Need-same-length
 same-length c = search needs
 
@@ -110,6 +119,12 @@ same-length-7 c = search needs
 returns-7 : tie.Need-returns-7
 returns-7 c = part-shown Cursor (c .before .before .before .before .before .enum-told7 .given .1) (c .before .before .put7 .ensures)
 
+same-length-8 : tie.Need-same-length-8
+same-length-8 c = search needs
+
+returns-8 : tie.Need-returns-8
+returns-8 c = part-shown Seconds (c .before .before .before .before .before .enum-told8 .given .1) (c .before .before .put8 .ensures)
+
 pub put-part-spec : {M : Type 1} → statement M
 put-part-spec =
     tie.close
@@ -135,6 +150,9 @@ put-part-spec =
     enum-told-7
     slice-aggregate-put-7
     put-requires-7
+    enum-told-8
+    slice-aggregate-put-8
+    put-requires-8
     same-length
     returns
     same-length-2
@@ -148,4 +166,6 @@ put-part-spec =
     same-length-6
     returns-6
     same-length-7
-    returns-7)
+    returns-7
+    same-length-8
+    returns-8)

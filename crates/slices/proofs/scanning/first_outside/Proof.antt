@@ -1,18 +1,14 @@
 -- `slices::scanning::first_outside` meets its contract: of the bytes passed, none is outside. Assumes nothing.
-use mathlib.Core.Path.{_≡_, ap, sym, _∙_}
-use mathlib.Core.Bool.{true, true≢false}
-use Prim.Native.Nat.{ℕ, _+_, _-_, _≤_, _<_}
-use native.Mathlib.Omega.{arith}
-use borrow.Author.Count.{below-more}
-use lib.ListN.{getD}
-use Rattle.slices.proofs.Extremes.{least-is, least-none}
-use Rattle.slices.specs.Scans.{outside, firstOutside}
+use mathlib.Core.Path.{refl, ap, _∙_}
+use Prim.Native.Nat.{_-_}
+use Rattle.slices.specs.Scans.{outside}
+use Rattle.slices.proofs.Scans.{Passed, passed-none, passed-stops, passed-more, passed-all}
 use borrow.Author.Needs.{needs}
 use Rattle.slices.proofs.scanning.first_outside.Statement.{statement}
 use Rattle.slices.proofs.scanning.first_outside.Tie as tie
 
 abbrev Inv-loop : tie.InvT-loop
-Inv-loop bytes low limit at count i₀ i = (i ≤ count) × ((k : ℕ) → k < i → outside low limit (getD bytes (at + k) 0) ≡ true → ⊥)
+Inv-loop bytes low limit at count i₀ i = Passed low limit bytes at count i
 
 abbrev μ-loop : tie.MeasureT-loop
 μ-loop bytes low limit at count i₀ i = count - i
@@ -21,7 +17,7 @@ is-inside-requires : tie.Need-is-inside-requires Inv-loop μ-loop
 is-inside-requires c κs = search needs
 
 loop-holds : tie.Need-loop-holds Inv-loop μ-loop
-loop-holds c = search needs
+loop-holds c = passed-none _ _ _ _ _
 
 add-wide : tie.Need-add-wide Inv-loop μ-loop
 add-wide c = search needs
@@ -39,12 +35,10 @@ returns : tie.Need-returns Inv-loop μ-loop
 returns c = c .before .is-inside .ensures (c .if1 .taken)
 
 returns-2 : tie.Need-returns-2 Inv-loop μ-loop
-unfolding firstOutside
 returns-2 c =
-    let i = c .before .before .before .before .before in
-    sym
-    (least-is _ _ (i .loop .i) (search needs) (i .loop .inv .1)
-    (sym (ap (outside _ _) (c .before .before .wide .ensures)) ∙ (sym (c .before .is-outside .ensures) ∙ c .if2 .taken)))
+    let w = c .before .before in
+    let d = w .before .before in
+    passed-stops (d .before .loop .inv) (d .loop-test .taken) refl (c .before .is-outside .ensures ∙ ap (outside _ _) (w .wide .ensures)) (c .if2 .taken)
 
 add-i : tie.Need-add-i Inv-loop μ-loop
 add-i c = search needs
@@ -53,15 +47,13 @@ loop-less : tie.Need-loop-less Inv-loop μ-loop
 loop-less c = search needs
 
 loop-again : tie.Need-loop-again Inv-loop μ-loop
-loop-again c = (
-  search needs,
-  below-more _ _ (c .before .before .before .before .before .loop .inv .1)
-      (λ e. true≢false (sym e ∙ (sym (ap (outside _ _) (c .before .before .wide .ensures)) ∙ (sym (c .before .is-outside .ensures) ∙ c .if2 .left)))),
-)
+loop-again c =
+    let w = c .before .before in
+    let d = w .before .before in
+    passed-more (d .before .loop .inv) (d .loop-test .taken) refl (c .before .is-outside .ensures ∙ ap (outside _ _) (w .wide .ensures)) (c .if2 .left)
 
 returns-3 : tie.Need-returns-3 Inv-loop μ-loop
-unfolding firstOutside
-returns-3 c = sym (least-none _ _ (λ k h. c .before .loop .inv .1 k (omega arith)))
+returns-3 c = passed-all (c .before .loop .inv) (c .loop-test .left)
 
 pub first-outside-spec : {M : Type 1} → statement M
 first-outside-spec =

@@ -1,0 +1,13 @@
+pub mod Measures
+pub mod Gathered
+pub mod LetterNames
+pub mod Lengths
+pub mod RowValues
+pub mod Shapes
+pub mod Durations
+pub mod Texts
+pub mod FrontRead
+pub mod BlocksRead
+pub mod BlocksText
+pub mod PartsRead
+pub mod Families
