@@ -28,7 +28,7 @@ use Rattle.blocks.proofs.Shapes.{Counts, counts-was, fixed-head, leadin
 
 -- what follows
 module _ {A : Type 0} (go : List ℕ → ℕ → Result A) where
-  pub following-refused : {x : Result Found} {r : Refusal} → x ≡ refused r → following x go ≡ refused r
+  following-refused : {x : Result Found} {r : Refusal} → x ≡ refused r → following x go ≡ refused r
   following-refused e = ap (λ (z : Result Found). following z go) e
 
   pub following-given : {x : Result Found} {f : Found} → x ≡ given f → following x go ≡ go (f .values) (f .next)

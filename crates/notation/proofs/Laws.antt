@@ -83,7 +83,7 @@ module _ (level : ℕ) (low : 3 ≤ level) (high : level < 5) (b : List ℕ) (v 
       ∙ (tab-same m (λ a. getD w a 0) (λ a. getD (take m w) a 0) (λ a h. sym (getD-take m w a 0 h))
       ∙ (ap (λ (k : ℕ). tab k (λ a. getD (take m w) a 0)) (sym (length-take-le m w (fit .many))) ∙ tab-getD (take m w)))
 
-  pub text-said : sheetIn (textOf level w b) ≡ given (record { level = level; bytes = b; seconds = take m w })
+  text-said : sheetIn (textOf level w b) ≡ given (record { level = level; bytes = b; seconds = take m w })
   unfolding sheetIn textOf
   text-said =
       ap (mapped sheetOf) (text-numbers level low high F packs w fit)
