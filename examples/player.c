@@ -4,7 +4,7 @@
  *     player                 sheets A and B, which are built in
  *     player FIRST SECOND    packed sheets in files
  *
- * Build it with include/ in the search path and target/staticlib/libplayers.a, which `rt staticlib players` writes.
+ * Build it with include/ in the search path and target/lib/libfdfa.a, which `make lib` writes.
  */
 #include "fdfa.h"
 
@@ -25,15 +25,6 @@ struct slice {
 
 static const uint8_t sheet_a[] = {2, 1, 1, 0, 0, 0, 0, 1};
 static const uint8_t sheet_b[] = {2, 1, 2, 0, 0, 1, 0, 1, 1, 0, 1};
-
-/* Number `index` of an answer: 8 bytes, low byte first. */
-static uint64_t number(const uint8_t *answer, size_t index)
-{
-    uint64_t value = 0;
-    for (size_t at = 8; at > 0; at--)
-        value = value << 8 | answer[8 * index + at - 1];
-    return value;
-}
 
 static void print_word(const char *part, struct slice word)
 {
@@ -56,9 +47,9 @@ static void print_show(const char *name, struct slice opening, struct slice loop
 static int print_refusal(const uint8_t *answer)
 {
     static const char *const parts[] = {"first", "second", "opening", "loop", "out", "work", "cursor"};
-    if (number(answer, 0) == 0)
+    if (fdfa_number(answer, 0) == 0)
         return 0;
-    printf("refused %" PRIu64 " %s %" PRIu64 "\n", number(answer, 0), parts[number(answer, 1)], number(answer, 2));
+    printf("refused %" PRIu64 " %s %" PRIu64 "\n", fdfa_number(answer, 0), parts[fdfa_number(answer, 1)], fdfa_number(answer, 2));
     return 1;
 }
 
@@ -71,8 +62,8 @@ static void judge(const char *name, struct slice sheet, struct slice opening, st
     if (print_refusal(answer))
         return;
     printf("%s, i %" PRIu64 ", j %" PRIu64 ", place %" PRIu64 ", loop place at the end %" PRIu64 "\n",
-           number(answer, 1) == 1 ? "accepted" : "rejected",
-           number(answer, 2), number(answer, 3), number(answer, 4), number(answer, 5));
+           fdfa_number(answer, 1) == 1 ? "accepted" : "rejected",
+           fdfa_number(answer, 2), fdfa_number(answer, 3), fdfa_number(answer, 4), fdfa_number(answer, 5));
 }
 
 static void compare(struct slice first, struct slice second)
@@ -85,13 +76,13 @@ static void compare(struct slice first, struct slice second)
     printf("first in second: ");
     if (print_refusal(answer))
         return;
-    printf("%s, pairs of places reached %" PRIu64 "\n", number(answer, 1) == 1 ? "missing" : "contained", number(answer, 2));
-    if (number(answer, 1) == 1) {
-        struct slice opening = {opening_room, number(answer, 3)};
-        struct slice loop = {loop_room, number(answer, 4)};
+    printf("%s, pairs of places reached %" PRIu64 "\n", fdfa_number(answer, 1) == 1 ? "missing" : "contained", fdfa_number(answer, 2));
+    if (fdfa_number(answer, 1) == 1) {
+        struct slice opening = {opening_room, fdfa_number(answer, 3)};
+        struct slice loop = {loop_room, fdfa_number(answer, 4)};
         print_show("counter-show", opening, loop);
         printf("  first waits %" PRIu64 ", ends %" PRIu64 "; second waits %" PRIu64 ", ends %" PRIu64 "\n",
-               number(answer, 5), number(answer, 6), number(answer, 7), number(answer, 8));
+               fdfa_number(answer, 5), fdfa_number(answer, 6), fdfa_number(answer, 7), fdfa_number(answer, 8));
         judge("  first", first, opening, loop);
         judge("  second", second, opening, loop);
     }

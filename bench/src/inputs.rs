@@ -6,7 +6,7 @@ use outside::inclusion::{Inclusion, Search};
 use outside::naive;
 use outside::random::Random;
 
-const MIB: usize = 1 << 20;
+pub const MIB: usize = 1 << 20;
 
 pub struct Lasso {
     pub sheet: Vec<u8>,
@@ -39,7 +39,7 @@ pub fn lassos() -> Vec<(String, Lasso)> {
 }
 
 /// All automata have that many states, and each letter permutes them; half the progress states are marked.
-fn sheet_of_permutations(random: &mut Random, letters: usize, states: usize) -> Vec<u8> {
+pub fn sheet_of_permutations(random: &mut Random, letters: usize, states: usize) -> Vec<u8> {
     let leading = table(random, Shape::Permutation, letters, states);
     Draft { letters, leading, progress: progress(random, letters, states) }.pack()
 }

@@ -1,66 +1,87 @@
-//! The text of a large sheet, written by `unpack` and read by `pack`: whole runs of the programs, less runs on a tiny sheet.
+//! The text of the largest sheet and of a long show, read and written.
 
-use std::fs;
-use std::path::{Path, PathBuf};
-use std::process::Command;
-use std::time::Instant;
+use crate::timing::Table;
+use outside::layout::{put, SHEET_READ_BYTES, SHEET_WRITE_BYTES, SHOW_READ_BYTES, SHOW_WRITE_BYTES};
+use outside::random::Random;
+use outside::sheet::{Part, Sheet, MOST};
+use outside::{library, sheet_text, show_text};
+use std::hint::black_box;
 
-const RUNS: usize = 201;
-
-/// Prints a line for writing and one for reading. The text is the longest of these sheets that `pack` takes.
-pub fn time() {
-    let programs = Path::new(env!("CARGO_MANIFEST_DIR")).join("../target/bin");
-    let folder = std::env::temp_dir().join(format!("fdfa-bench-{}", std::process::id()));
-    fs::create_dir_all(&folder).expect("a folder for the texts");
-    let file = |name: &str| folder.join(name);
-    fs::write(file("tiny.sheet"), sheet(1, 1)).expect("a sheet is written");
-    fs::write(file("large.sheet"), sheet(32, 18)).expect("a sheet is written");
-    println!();
-    println!("| text | ms |");
-    println!("|---|---|");
-    let (write, read) = (programs.join("unpack"), programs.join("pack"));
-    let written = difference(&write, [file("tiny.sheet"), file("tiny.text")], [file("large.sheet"), file("large.text")]);
-    let bytes = fs::metadata(file("large.text")).expect("the text is there").len();
-    println!("| written, {bytes} bytes | {written:.3} |");
-    let packed = difference(&read, [file("tiny.text"), file("tiny.back")], [file("large.text"), file("large.back")]);
-    println!("| read, the same text | {packed:.3} |");
-    assert_eq!(fs::read(file("large.back")).unwrap(), sheet(32, 18), "the sheet that comes back is another");
-    fs::remove_dir_all(&folder).expect("the folder goes");
+pub fn time(table: &mut Table) {
+    time_sheet(table);
+    time_show(table);
 }
 
 /// A sheet of 32 scenes, n places and k places in each loop automaton; every number has as many digits as it can.
 fn sheet(n: usize, k: usize) -> Vec<u8> {
     let (n8, k8) = (n as u8, k as u8);
-    let mut bytes = vec![32, n8];
+    let mut bytes = vec![MOST as u8, n8];
     bytes.extend(vec![k8; n]);
-    bytes.extend(vec![n8 - 1; n * 32]);
+    bytes.extend(vec![n8 - 1; n * MOST]);
     for _ in 0..n {
-        bytes.extend(vec![k8 - 1; k * 32]);
+        bytes.extend(vec![k8 - 1; k * MOST]);
         bytes.extend(vec![1; k]);
     }
     bytes
 }
 
-/// The median of the large file's runs less that of the tiny one's, in turn.
-fn difference(program: &Path, tiny: [PathBuf; 2], large: [PathBuf; 2]) -> f64 {
-    let (mut tiny_times, mut large_times) = (Vec::new(), Vec::new());
-    for _ in 0..RUNS {
-        tiny_times.push(run(program, &tiny));
-        large_times.push(run(program, &large));
-    }
-    median(&mut large_times) - median(&mut tiny_times)
+/// At level four, where the scenes have seconds.
+fn time_sheet(table: &mut Table) {
+    const LEVEL: usize = 4;
+    let (sheet, seconds) = (sheet(MOST, MOST), vec![999; MOST]);
+    let text = sheet_text::text_of(LEVEL, &Sheet::read(&sheet, Part::First).expect("it is in order"), &seconds);
+    let text = text.into_bytes();
+    let bytes = text.len();
+
+    type Read = (Vec<u8>, Vec<u16>, [u8; SHEET_READ_BYTES]);
+    let rust = |(out, seconds, answer): &mut Read| {
+        let read = sheet_text::read(black_box(&text), out, seconds);
+        put(answer, &read.map(|(level, length)| vec![level, length]));
+    };
+    let library = |(out, seconds, answer): &mut Read| {
+        library::sheet_read((&text).into(), out.into(), seconds.into(), answer.as_mut_slice().into());
+    };
+    let lent = (vec![0; sheet.len()], vec![0; MOST], [0; SHEET_READ_BYTES]);
+    table.row(&format!("sheet text read, {bytes} bytes"), lent, rust, library);
+
+    type Written = (Vec<u8>, [u8; SHEET_WRITE_BYTES]);
+    let rust = |(out, answer): &mut Written| {
+        let written = sheet_text::write(LEVEL as u64, black_box(&sheet), black_box(&seconds), out);
+        put(answer, &written.map(|length| vec![length]));
+    };
+    let library = |(out, answer): &mut Written| {
+        let answer = answer.as_mut_slice();
+        library::sheet_write(LEVEL, (&sheet).into(), (&seconds).into(), out.into(), answer.into());
+    };
+    let lent = (vec![0; bytes], [0; SHEET_WRITE_BYTES]);
+    table.row(&format!("sheet text written, {bytes} bytes"), lent, rust, library);
 }
 
-fn median(times: &mut [f64]) -> f64 {
-    times.sort_by(f64::total_cmp);
-    times[times.len() / 2]
-}
+fn time_show(table: &mut Table) {
+    const SCENES: usize = 50_000;
+    let mut random = Random::new(15);
+    let (prefix, period) = (random.word(SCENES, MOST), random.word(SCENES, MOST));
+    let text = show_text::text_of(&prefix, &period).into_bytes();
+    let bytes = text.len();
 
-/// Milliseconds that one run takes.
-fn run(program: &Path, files: &[PathBuf; 2]) -> f64 {
-    let began = Instant::now();
-    let output = Command::new(program).args(files).output().expect("the program runs");
-    let took = began.elapsed().as_secs_f64() * 1e3;
-    assert!(output.stdout.is_empty(), "{}: {}", program.display(), String::from_utf8_lossy(&output.stdout));
-    took
+    type Read = (Vec<u8>, Vec<u8>, [u8; SHOW_READ_BYTES]);
+    let rust = |(prefix, period, answer): &mut Read| {
+        let read = show_text::read(black_box(&text), prefix, period);
+        put(answer, &read.map(|(prefix, period)| vec![prefix, period]));
+    };
+    let library = |(prefix, period, answer): &mut Read| {
+        library::show_read((&text).into(), prefix.into(), period.into(), answer.as_mut_slice().into());
+    };
+    let lent = (vec![0; SCENES], vec![0; SCENES], [0; SHOW_READ_BYTES]);
+    table.row(&format!("show text read, {bytes} bytes"), lent, rust, library);
+
+    type Written = (Vec<u8>, [u8; SHOW_WRITE_BYTES]);
+    let rust = |(out, answer): &mut Written| {
+        let written = show_text::write(black_box(&prefix), black_box(&period), out);
+        put(answer, &written.map(|length| vec![length]));
+    };
+    let library = |(out, answer): &mut Written| {
+        library::show_write((&prefix).into(), (&period).into(), out.into(), answer.as_mut_slice().into());
+    };
+    table.row(&format!("show text written, {bytes} bytes"), (vec![0; bytes], [0; SHOW_WRITE_BYTES]), rust, library);
 }

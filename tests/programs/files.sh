@@ -3,6 +3,7 @@
 #   $fault     number and place of that refusal
 #   $nothing   number of the refusal of an empty source
 #   $padded    the refusal of the good source with zeros after it
+#   $lined     yes where the source is lines of text
 #   $usage     what is said of a wrong number of arguments, and $too_many, the words after two that make it so
 #   $target    what the second argument is called where it is too long
 run() {
@@ -19,14 +20,60 @@ takes() {
     judge "$1: what is made" cmp "$top/made" "$3"
 }
 
+# takes_by NAME TARGET ARGUMENT..: the target is made by these arguments, and removed.
+takes_by() {
+    expect "$1" '' '' run "${@:3}"
+    judge "$1: what is made" cmp "$top/made" "./$2"
+    rm "./$2"
+}
+
 # refuses NAME NUMBER PLACE ARGUMENT..
 refuses() {
     refuses_part "$1" "$2" first "$3" "${@:4}"
 }
 
-# refuses_part NAME NUMBER PART PLACE ARGUMENT..
+# words FILE LINED NUMBER PLACE: the refusal in words, by line and column or by byte.
+words() {
+    local line
+    if [ "$2" = yes ]; then
+        line=$(($(head -c "$4" "$1" 2> "$top/null" | wc -l) + 1))
+        printf '%s:%s:%s:' "${1:0:4096}" "$line" "$(($(head -c "$4" "$1" 2> "$top/null" | tail -n "+$line" | wc -c) + 1))"
+    else
+        printf '%s: byte %s:' "${1:0:4096}" "$4"
+    fi
+    echo " refusal $3: $(sentence "$3")"
+}
+
+# refuses_part NAME NUMBER PART PLACE ARGUMENT..: on standard output, and in words on standard error.
 refuses_part() {
-    expect "$1" "$(refusal "$2" "$3" "$4")$nl" '' run "${@:5}"
+    local said
+    said=$(
+        unread "$5"
+        if [ "$program" = unpack ] && [ $# -gt 6 ] && [ "$2$3" != 25first ]; then unread "$7"; fi
+        case $3 in
+            first) words "$5" "$lined" "$2" "$4" ;;
+            second) words "$7" no "$2" "$4" ;;
+            seconds)
+                words "$7" no "$2" $(($4 * 2))
+                if [ "$2" = 21 ]; then echo 'unpack: SECONDS has not two bytes for each scene'; fi
+                ;;
+        esac
+    )
+    expect "$1" "$(refusal "$2" "$3" "$4")$nl" "$said$nl" run "${@:5}"
+}
+
+# keeps_all NAME: no file is left over beside those that are made.
+keeps_all() {
+    judge "$1: nothing is left over" test -z "$(ls -A | grep '^\.new\.')"
+}
+
+# as_user COMMAND..: by someone whom permissions bind.
+as_user() {
+    if [ "$(id -u)" -eq 0 ]; then
+        setpriv --reuid 65534 --regid 65534 --clear-groups "$@"
+    else
+        "$@"
+    fi
 }
 
 # faulty TEXT [THIRD]: each line of standard input has number and place of a refusal, what stands in the text and what takes its place; _
@@ -52,7 +99,17 @@ takes 'a new target' good target
 judge 'a new target: the source stays' cmp "$top/good" good
 yes 'something longer' | head -c 200000 > target
 takes 'a target that is longer' good target
-takes 'source and target are one' good good
+# of a drawing nothing would be left, so it stays
+if [ "$program" = import ]; then
+    ln good hard
+    for name in good ./good hard; do
+        expect "source and target are one: $name" '' "import: TEXT and SHEET are one file, nothing is made$nl" run good "$name"
+        judge "source and target are one: $name stays" cmp "$top/good" "$name"
+    done
+    rm hard
+else
+    takes 'source and target are one' good good
+fi
 refuses 'refused, no target' $fault bad none
 judge 'refused, no target: none is made' test ! -e none
 echo 'as before' > target
@@ -84,7 +141,7 @@ pad 65537 < "$top/good" > long
 refuses 'a source of 65537' 25 65536 long target
 judge 'a source of 65537: the target stays' test "$(cat target)" = 'as before'
 pad 65536 < "$top/good" > long
-expect 'a source of 65536' "$(refusal $padded)$nl" '' run long target
+refuses_part 'a source of 65536' $padded long target
 
 # arguments
 cp "$top/good" good
@@ -94,19 +151,151 @@ expect 'one argument' '' "$usage$nl" run good
 expect 'one argument that is empty' '' "$usage$nl" run ''
 expect 'too many arguments' '' "$usage$nl" run good none $too_many
 expect 'far too many arguments' '' "$usage$nl" run good none $too_many 4 5 6 7
+for option in -h --help -x --explain --usage; do
+    expect "the option $option" '' "$usage$nl" run "$option"
+    expect "the option $option and two names" '' "$usage$nl" run "$option" good none
+    expect "the option $option last" '' "$usage$nl" run good none "$option"
+done
+expect 'no name after --' '' "$usage$nl" run --
+expect 'one name after --' '' "$usage$nl" run -- good
 judge 'wrong arguments: no target is made' test ! -e none
+judge 'the usage has a line and three' test "$(echo "$usage" | wc -l)" -eq 4
+takes_by 'names after --' -h -- good -h
+takes_by 'a name, then --' -h good -- -h
+takes_by 'two names, then --' none good none --
+takes_by 'a name that is -' - good -
+cp good ./--help
+takes_by 'a source like an option' none -- --help none
+rm ./--help
 
-# targets that cannot be made or written whole
+# targets that cannot be made
 expect 'a folder as the target' '' "folder: Is a directory$nl" run good folder
 expect 'a target in no folder' '' "none/target: No such file or directory$nl" run good none/target
+expect 'a target in a file' '' "good/target: Not a directory$nl" run good good/target
 expect 'an empty name as the target' '' ": No such file or directory$nl" run good ''
 expect 'a name that is too long' '' "$target: File name too long$nl" run good "$long_name"
+expect 'a part of a name that is too long' '' "${long_name:0:300}: File name too long$nl" run good "${long_name:0:300}"
+ln -s round round
+expect 'a link to itself as the target' '' "round: Too many levels of symbolic links$nl" run good round
+keeps_all 'targets that cannot be made'
+
+# targets that cannot be written whole: what was there is there, and nothing else
+fresh
+cp "$top/good" good
 expect 'a target that grows too large' '' "cut: File too large$nl" limited good cut
-judge 'a target that grows too large: it is removed' test ! -e cut
+judge 'a target that grows too large: it is not made' test ! -e cut
+keeps_all 'a target that grows too large'
+echo 'as before' > old
+ln old again
+ln -s old link
+expect 'a target that is there grows too large' '' "old: File too large$nl" limited good old
+judge 'a target that is there grows too large: it stays' test "$(cat old)" = 'as before'
+judge 'a target that is there grows too large: its other name too' test old -ef again
+expect 'what a link leads to grows too large' '' "link: File too large$nl" limited good link
+judge 'what a link leads to grows too large: it stays' test "$(cat old)" = 'as before'
+judge 'what a link leads to grows too large: the link stays' test "$(readlink link)" = old
+ln -s "$top/missing" to_be # what is made through a link lies elsewhere
+expect 'what a link is to lead to grows too large' '' "to_be: File too large$nl" limited good to_be
+judge 'what a link is to lead to grows too large: the link stays' test "$(readlink to_be)" = "$top/missing"
+judge 'what a link is to lead to grows too large: it is empty' test ! -s "$top/missing"
+cp good both
+if [ "$program" != import ]; then
+    expect 'source and target are one, and grow too large' '' "both: File too large$nl" limited both both
+    judge 'source and target are one, and grow too large: it stays' cmp good both
+fi
+keeps_all 'targets that grow too large'
 if [ -c /dev/full ]; then
     ln -s /dev/full full
     expect 'a device that is full' '' "full: No space left on device$nl" run good full
     judge 'a device that is full: it stays' test -L full -a -c full
+    expect 'a device that is full, by its name' '' "/dev/full: No space left on device$nl" run good /dev/full
+    judge 'a device that is full, by its name: it stays' test -c /dev/full
+    cp "$top/bad" bad
+    run bad none > /dev/full 2> said
+    judge 'an answer that cannot be written' test "$(cat said)" = "standard output: No space left on device$nl$(words bad "$lined" $fault)"
 else
     skip 'a device that is full: there is none'
+fi
+
+# targets that are written
+rm -f to_be "$top/missing"
+takes 'what a link leads to' good link
+judge 'what a link leads to: the link stays' test "$(readlink link)" = old
+judge 'what a link leads to: its other name too' test old -ef again
+yes 'something longer' | head -c 200000 > old
+takes 'what a link leads to, and is longer' good link
+judge 'what a link leads to, and is longer: the file' cmp "$top/made" old
+ln -s "$top/new" to_be
+takes 'what a link is to lead to' good to_be
+judge 'what a link is to lead to: the link stays' test "$(readlink to_be)" = "$top/new"
+ln -s "$PWD/old" far
+ln -s far farther
+echo 'as before' > old
+takes 'a link to a link' good farther
+mkfifo pipe
+cat pipe > "$top/piped" &
+expect 'a pipe' '' '' run good pipe
+wait $!
+judge 'a pipe: what came' cmp "$top/made" "$top/piped"
+judge 'a pipe: it stays' test -p pipe
+run good /dev/stdout > written
+judge 'standard output by its name' cmp "$top/made" written
+run good /dev/stdout | cat > written
+judge 'standard output by its name, a pipe' cmp "$top/made" written
+takes 'a target in a folder by a long way' good "./$(yes ./ | head -n 1000 | tr -d '\n')deep"
+keeps_all 'targets that are written'
+
+# the mode of a file stays; a new one has the usual
+for mode in 600 644 640 777 4755; do
+    echo 'as before' > target
+    chmod "$mode" target
+    takes "a target of mode $mode" good target
+    judge "a target of mode $mode: its mode" test "$(stat -c %a target)" = "$mode"
+    rm target
+done
+for mask in 000 022 027 077; do
+    (umask "$mask"; run good target)
+    judge "a new target under $mask" test "$(stat -c %a target)" = "$(printf '%o' $((0666 & ~0$mask)))"
+    rm target
+done
+if [ "$(id -u)" -eq 0 ]; then
+    echo 'as before' > target
+    chown 12345:54321 target
+    takes "another's target" good target
+    judge "another's target: it stays theirs" test "$(stat -c %u:%g target)" = 12345:54321
+    rm target
+fi
+
+# what permissions forbid
+if ! as_user true 2> "$top/null"; then
+    skip 'what permissions forbid: root may do all'
+else
+    cp "$bin/$program" "$top/program"
+    chmod 755 "$top" "$top/case" "$top/program"
+    chmod 644 good
+    mkdir shut sticky
+    echo 'as before' | tee shut/closed shut/old sticky/old > shut/link_to
+    ln -s link_to shut/link
+    chmod 444 shut/closed
+    chmod 666 shut/old shut/link_to sticky/old
+    chmod 1777 sticky
+    chmod 555 shut
+    expect 'a folder that is shut' '' "shut/new: Permission denied$nl" as_user "$top/program" good shut/new
+    expect 'a folder that is shut, a file that is closed' '' "shut/closed: Permission denied$nl" as_user "$top/program" good shut/closed
+    judge 'a folder that is shut, a file that is closed: it stays' test "$(cat shut/closed)" = 'as before'
+    expect 'a folder that is shut, a file that grows too large' '' "shut/old: File too large$nl" as_user bash -c "trap '' XFSZ; ulimit -f 1; exec \"\$@\"" bash "$top/program" good shut/old
+    judge 'a folder that is shut, a file that grows too large: it stays' test "$(cat shut/old)" = 'as before'
+    for name in shut/old shut/link sticky/old; do
+        expect "a file that may be written, $name" '' '' as_user "$top/program" good "$name"
+        judge "a file that may be written, $name: it is" cmp "$top/made" "$name"
+    done
+    judge 'what permissions forbid: nothing is left over' test "$(ls -A shut sticky | tr '\n' ' ')" = 'shut: closed link link_to old  sticky: old '
+    mkdir open
+    echo 'as before' > open/closed
+    chmod 444 open/closed
+    chmod 777 open
+    expect 'a file that is closed in an open folder' '' "open/closed: Permission denied$nl" as_user "$top/program" good open/closed
+    judge 'a file that is closed in an open folder: it stays' test "$(cat open/closed)" = 'as before'
+    judge 'a file that is closed in an open folder: nothing is left over' test "$(ls -A open)" = closed
+    chmod 755 shut
 fi

@@ -1,5 +1,8 @@
-# What the tests of compare and verdict share, sourced by both: programs that read the files of the folder they are run in. The caller
-# sets $program.
+# What the tests of compare and verdict share, sourced by both: programs that read two files, of the folder they are run in or named. The
+# caller sets $program, $one and $two, the files, and $lined, the one of them that is text always. $asked has the arguments, and $any
+# says that a sheet may come in any form.
+asked=()
+any=
 
 # 01's sheets
 A='2 1 1 0 0 0 0 1'
@@ -34,17 +37,38 @@ far_scenes() {
     zeros 17; bytes 1; zeros 31; bytes 1; zeros 14; bytes 0 1
 }
 
-# says NAME OUTPUT: the program prints this of the files that are there, and leaves them alone.
+# spot FILE PLACE: the place by line and column, from 1, in a text, else by byte
+spot() {
+    local text='' lines ended
+    case $(head -c 1 "$1" 2> /dev/null | tr '\0' .) in
+        l | '[') text=$any ;;
+    esac
+    if [ -n "$text" ] || [ "$1" = "$lined" ]; then
+        lines=$(head -c "$2" "$1" 2> /dev/null | tr -cd '\n' | wc -c)
+        ended=$(head -c "$2" "$1" 2> /dev/null | head -n "$lines" | wc -c)
+        echo "$1:$((lines + 1)):$(($2 - ended + 1))"
+    else
+        echo "$1: byte $2"
+    fi
+}
+
+# says NAME OUTPUT [ERROR]: the program prints this of the files that are there, and makes none. What cannot be read is said first.
 says() {
-    local before
-    before=$(ls -A)
-    expect "$1" "$2$nl" '' "$bin/$program"
-    judge "$1: no file is made" test "$before" = "$(ls -A)"
+    local unread
+    unread=$(unread "$one"; unread "$two")
+    expect "$1" "$2$nl" "${unread:+$unread$nl}${3:-}" "$bin/$program" "${asked[@]}"
 }
 
 # refuses NAME NUMBER PART PLACE
 refuses() {
-    says "$1" "$(refusal "$2" "$3" "$4")"
+    local where
+    case $3-$2 in
+        second-7) where=$two ;;
+        first-*) where=$(spot "$one" "$4") ;;
+        second-*) where=$(spot "$two" "$4") ;;
+        *) where=$program ;;
+    esac
+    says "$1" "$(refusal "$2" "$3" "$4")" "$where: refusal $2: $(sentence "$2")$nl"
 }
 
 # scenes PART COUNT SCENE: so many lines of that part, all of one scene.
@@ -68,4 +92,58 @@ unreadable() {
         chmod 000 "$1"
         refuses "a file that may not be read as $1" "$2" "$3" "$4"
     fi
+}
+
+# 01's sheet B as text, of level four, and an automaton
+text_b="level scenes places${nl}3 2 1${nl}place loops s0 s1${nl}0 2 0 0${nl}place loop mark s0 s1${nl}0 0 0 1 0${nl}0 1 1 1 1$nl"
+text_4="level scenes places${nl}4 2 1${nl}scene seconds${nl}0 1${nl}1 999$nl${text_b#*3 2 1$nl}"
+drawn="[0]${nl}s0,[0]->[1]${nl}s1,[0]->[0]${nl}s0,[1]->[1]${nl}s1,[1]->[0]${nl}[1]$nl"
+
+# named FILE FILE: the arguments are these names
+named() {
+    one=$1 two=$2 asked=("$1" "$2") any=yes
+}
+
+# forms_of NAME: of the packed sheet NAME its texts, NAME.txt and NAME.four
+forms_of() {
+    printf '\1\0\2\0' > seconds
+    "$bin/unpack" "$1" "$1.txt"
+    "$bin/unpack" "$1" "$1.four" seconds
+    rm seconds
+}
+
+# text_faults PART FILE: each number that a text may be refused for, at its place; FILE is the damaged one and of this part
+text_faults() {
+    local number place whole old new
+    while read -r number place whole old new; do
+        old=${old//_/ } new=${new//_/ }
+        old=${old//@/$nl} new=${new//@/$nl}
+        [ "$new" = - ] && new=''
+        whole=${!whole}
+        printf '%s' "${whole/"$old"/"$new"}" > "$2"
+        judge "'$old' to '$new': the text differs" test "$(cat "$2"; echo .)" != "$whole."
+        refuses "$1: '$old' to '$new'" "$number" "$1" "$place"
+    done << 'END'
+10 20 text_b 3_2_1 5_2_1
+2 22 text_b 3_2_1 3_33_1
+3 24 text_b 3_2_1 3_2_0
+4 46 text_b 0_2_0_0 0_33_0_0
+5 50 text_b 0_2_0_0 0_2_0_1
+6 78 text_b 0_0_0_1_0 0_0_2_1_0
+11 4 text_b level lever
+11 93 text_b 1_1_1_1@ 1_1_1_1
+11 94 text_b 1_1_1_1@ 1_1_1_1@@
+12 86 text_b 0_1_1_1_1 0_0_1_1_1
+14 42 text_4 0_1@ 0_0@
+12 17 drawn s1,[0] s32,[0]
+5 13 drawn ->[1] ->[2]
+11 1 drawn [0] [1]
+12 17 drawn s1,[0] s3,[0]
+13 52 drawn @[1]@ @
+END
+}
+
+# usage_shown NAME ARGUMENT..: these arguments are refused with the usage, and nothing is judged
+usage_shown() {
+    expect "$1" '' "$usage$nl" "$bin/$program" "${@:2}"
 }

@@ -1,27 +1,20 @@
 //! One call with all the slices that it is lent, and cases at random.
 
+use crate::export::{Export, Slice, COMPARE, EXPORTS, VERDICT};
 use crate::guarded::Placement;
-use crate::inclusion::{Inclusion, Search, CELLS};
-use crate::layout::{COMPARE_BYTES, VERDICT_BYTES};
-use crate::mix::{any_sheet, sheet_pair};
+use crate::inclusion::Search;
 use crate::random::Random;
 use crate::sheet::MOST;
 
-/// The longest word and the longest sheet that a case lends.
+/// The longest word that a case of the players' calls lends.
 pub const LONGEST_WORD: usize = 100_000;
 
-#[derive(Clone, Copy, Debug, PartialEq, Eq, PartialOrd, Ord)]
-pub enum Call {
-    Verdict,
-    Compare,
-}
-
-#[derive(Debug)]
 pub struct Case {
-    pub call: Call,
+    pub export: &'static Export,
     pub kind: &'static str,
+    pub numbers: Vec<usize>,
     /// In the order of the call's arguments; the last is the answer slice.
-    pub slices: Vec<Vec<u8>>,
+    pub slices: Vec<Slice>,
     pub placements: Vec<Placement>,
     /// Whether two slices that are only read are one and the same (opening and loop, or both sheets).
     pub shared: bool,
@@ -30,77 +23,69 @@ pub struct Case {
 impl Case {
     /// A verdict with an answer slice of the right length.
     pub fn verdict(sheet: &[u8], prefix: &[u8], period: &[u8]) -> Self {
-        let slices = vec![sheet.to_vec(), prefix.to_vec(), period.to_vec(), vec![0xee; VERDICT_BYTES]];
-        Case { call: Call::Verdict, kind: "paper", placements: vec![Placement::End; 4], slices, shared: false }
+        Self::paper(&VERDICT, [sheet, prefix, period].map(<[u8]>::to_vec).into())
     }
 
     /// A comparison with room for a prefix and a period of those lengths.
     pub fn compare(first: &[u8], second: &[u8], prefix: usize, period: usize) -> Self {
-        let answer = vec![0xee; COMPARE_BYTES];
-        let slices = vec![first.to_vec(), second.to_vec(), vec![0xcc; prefix], vec![0xdd; period], answer];
-        Case { call: Call::Compare, kind: "paper", placements: vec![Placement::End; 5], slices, shared: false }
+        Self::paper(&COMPARE, vec![first.to_vec(), second.to_vec(), vec![0xcc; prefix], vec![0xdd; period]])
     }
 
-    pub fn names(&self) -> &'static [&'static str] {
-        match self.call {
-            Call::Verdict => &["sheet", "opening", "loop", "answer"],
-            Call::Compare => &["first", "second", "opening", "loop", "answer"],
+    fn paper(export: &'static Export, slices: Vec<Vec<u8>>) -> Self {
+        Self::of_slices(export, slices.into_iter().map(Slice::Bytes).collect())
+    }
+
+    /// The call on these slices and an answer slice of the right length.
+    pub fn of_slices(export: &'static Export, mut slices: Vec<Slice>) -> Self {
+        slices.push(Slice::Bytes(vec![0xee; export.answer_bytes]));
+        let placements = vec![Placement::End; slices.len()];
+        Case { export, kind: "paper", numbers: Vec::new(), slices, placements, shared: false }
+    }
+
+    /// The names of its slices.
+    pub fn names(&self) -> impl Iterator<Item = &'static str> {
+        self.export.slices.iter().copied().chain(["answer"])
+    }
+
+    /// The answer slice before the call.
+    pub fn answer(&self) -> &[u8] {
+        match self.slices.last() {
+            Some(Slice::Bytes(answer)) => answer,
+            _ => unreachable!("the answer slice is the last, of bytes"),
         }
     }
 
-    /// The case of a seed.
+    /// The case of a seed: four in five are of the players' calls.
     pub fn random(seed: u64, search: &mut Search) -> Self {
         let mut random = Random::new(seed);
-        if random.once_in(2) {
-            random_verdict(&mut random)
-        } else {
-            random_compare(&mut random, search)
-        }
+        let at = match random.below(20) {
+            0..8 => 0,
+            8..16 => 1,
+            _ => random.between(2, EXPORTS.len() - 1),
+        };
+        Self::random_of(&EXPORTS[at], &mut random, search)
+    }
+
+    /// A case of one call.
+    pub fn random_of(export: &'static Export, random: &mut Random, search: &mut Search) -> Self {
+        let given = (export.random)(random, search);
+        let mut slices = given.slices;
+        let alike = export.readable.is_some_and(|[one, other]| slices[one] == slices[other]);
+        let shared = alike && random.once_in(2);
+        slices.push(Slice::Bytes(answer(random, export.answer_bytes)));
+        let placements = slices.iter().map(|slice| placement(random, slice)).collect();
+        Case { export, kind: given.kind, numbers: given.numbers, slices, placements, shared }
     }
 }
 
-fn random_verdict(random: &mut Random) -> Case {
-    let (kind, sheet) = any_sheet(random);
-    let letters = letters_of(&sheet);
-    let mut prefix = word(random, letters);
-    let mut period = if random.once_in(8) { Vec::new() } else { word(random, letters) };
-    let shared = random.once_in(32);
-    if shared {
-        period = prefix.clone();
-    }
-    for word in [&mut prefix, &mut period] {
-        if !shared && random.once_in(6) {
-            put_unknown(random, word, letters);
-        }
-    }
-    let answer = answer(random, VERDICT_BYTES);
-    finish(random, Call::Verdict, kind, vec![sheet, prefix, period, answer], shared)
-}
-
-fn random_compare(random: &mut Random, search: &mut Search) -> Case {
-    let (kind, first, second) = sheet_pair(random);
-    let shared = first == second && random.once_in(2);
-    let (mut longest_prefix, mut longest_period) = ([0; CELLS], [0; CELLS]);
-    let needed = match search.compare(&first, &second, &mut longest_prefix, &mut longest_period) {
-        Ok(Inclusion::Missing { prefix, period, .. }) => (prefix, period),
-        _ => (0, 0),
-    };
-    let prefix = room(random, needed.0);
-    let period = room(random, needed.1);
-    let answer = answer(random, COMPARE_BYTES);
-    finish(random, Call::Compare, kind, vec![first, second, prefix, period, answer], shared)
-}
-
-fn finish(random: &mut Random, call: Call, kind: &'static str, slices: Vec<Vec<u8>>, shared: bool) -> Case {
-    let placement = |slice: &Vec<u8>, random: &mut Random| match random.below(if slice.is_empty() { 8 } else { 4 }) {
+fn placement(random: &mut Random, slice: &Slice) -> Placement {
+    match random.below(if slice.is_empty() { 8 } else { 4 }) {
         0 => Placement::Start,
         1 => Placement::End,
         2..=3 => Placement::Middle(random.below(300)),
         4..=5 => Placement::Dangling,
         _ => Placement::Null,
-    };
-    let placements = slices.iter().map(|slice| placement(slice, random)).collect();
-    Case { call, kind, slices, placements, shared }
+    }
 }
 
 /// How many letters a packed sheet has; where it is not in order, some count.
@@ -142,12 +127,6 @@ fn answer(random: &mut Random, due: usize) -> Vec<u8> {
         2..=4 => due + random.between(1, 64),
         _ => due,
     };
-    random.bytes(length)
-}
-
-/// Room for a word, with anything in it.
-fn room(random: &mut Random, needed: usize) -> Vec<u8> {
-    let length = room_length(random, needed);
     random.bytes(length)
 }
 

@@ -1,24 +1,27 @@
 //! Runs a case in the library and compares the returned number and every byte of every lent slice with what is due.
 
-use crate::case::{Call, Case, LONGEST_WORD};
+use crate::case::Case;
+use crate::export::Slice;
 use crate::guarded::Region;
-use crate::inclusion::{Inclusion, Search};
-use crate::layout::{compare_answer, verdict_answer, COMPARE_BYTES, STANDINGS, VERDICT_BYTES};
-use crate::library;
-use crate::sheet::{Part, Refusal};
-use crate::verdict::{verdict, Verdict};
+use crate::inclusion::Search;
+use crate::layout::{put, STANDINGS};
+use crate::sheet::Part;
+
+/// The most slices that a call is lent, and room for each: a line at random has slices of up to 300,000 bytes.
+const REGIONS: usize = 6;
+const ROOM: usize = 320_000;
 
 /// What is due: the returned number, what each slice holds afterwards, and what that is called.
 pub struct Due {
     pub returned: u32,
-    pub slices: Vec<Vec<u8>>,
+    pub slices: Vec<Slice>,
     pub outcome: Outcome,
 }
 
-#[derive(Clone, Copy, Debug, PartialEq, Eq)]
+#[derive(Clone, Debug, PartialEq, Eq)]
 pub enum Outcome {
-    Verdict(Verdict),
-    Inclusion(Inclusion),
+    /// The answer's numbers but for the leading 0.
+    Given(Vec<usize>),
     Refused(usize, Part),
     AnswerTooShort,
 }
@@ -65,36 +68,29 @@ pub struct Checker {
 
 impl Default for Checker {
     fn default() -> Self {
-        let regions = (0..5).map(|_| Region::new(LONGEST_WORD + 4096)).collect();
-        Checker { regions, search: Search::default() }
+        Self::with_room(ROOM)
     }
 }
 
 impl Checker {
-    /// What the independent implementation says of a case.
+    /// So many bytes for each slice.
+    pub fn with_room(bytes: usize) -> Self {
+        let regions = (0..REGIONS).map(|_| Region::new(bytes)).collect();
+        Checker { regions, search: Search::default() }
+    }
+
+    /// What the independent implementation says of a case. An answer slice that is too short is judged before everything else.
     pub fn due(&mut self, case: &Case) -> Due {
         let mut slices = case.slices.clone();
-        let answer_length = if case.call == Call::Verdict { VERDICT_BYTES } else { COMPARE_BYTES };
-        if slices[slices.len() - 1].len() < answer_length {
-            return Due { returned: 0, slices, outcome: Outcome::AnswerTooShort };
-        }
-        let refused = |refusal: Refusal| Outcome::Refused(refusal.number, refusal.part);
-        let outcome = match (case.call, slices.as_mut_slice()) {
-            (Call::Verdict, [sheet, prefix, period, answer]) => {
-                let result = verdict(sheet, prefix, period);
-                answer[..VERDICT_BYTES].copy_from_slice(&verdict_answer(&result));
-                result.map_or_else(refused, Outcome::Verdict)
-            }
-            (Call::Compare, [first, second, prefix, period, answer]) => {
-                let result = self.search.compare(first, second, prefix, period);
-                if let Ok(found) = result {
-                    found.assert_walked([first, second], prefix, period);
-                }
-                answer[..COMPARE_BYTES].copy_from_slice(&compare_answer(&result));
-                result.map_or_else(refused, Outcome::Inclusion)
-            }
-            _ => unreachable!("each call has its own count of slices"),
+        let Some((Slice::Bytes(answer), lent)) = slices.split_last_mut() else {
+            unreachable!("the answer slice is the last, of bytes")
         };
+        let Some(answer) = answer.get_mut(..case.export.answer_bytes) else {
+            return Due { returned: 0, slices, outcome: Outcome::AnswerTooShort };
+        };
+        let told = (case.export.due)(&case.numbers, lent, &mut self.search);
+        put(answer, &told);
+        let outcome = told.map_or_else(|refusal| Outcome::Refused(refusal.number, refusal.part), Outcome::Given);
         Due { returned: 1, slices, outcome }
     }
 
@@ -102,6 +98,15 @@ impl Checker {
     pub fn check(&mut self, case: &Case) -> Result<Outcome, String> {
         let due = self.due(case);
         let returned = self.call(case);
+        self.compare(case, &due, returned).map(|()| due.outcome)
+    }
+
+    /// The same, where the call alone is made by `made`, which calls what it is given.
+    pub fn check_as(&mut self, case: &Case, made: impl FnOnce(&mut dyn FnMut())) -> Result<Outcome, String> {
+        let due = self.due(case);
+        self.lend(case);
+        let mut returned = u32::MAX;
+        made(&mut || returned = (case.export.call)(&case.numbers, &mut self.regions[..case.slices.len()]));
         self.compare(case, &due, returned).map(|()| due.outcome)
     }
 
@@ -114,10 +119,10 @@ impl Checker {
             Damage::Slice(slice, at) if !self.regions[slice].damage(at) => return None,
             Damage::Slice(..) => {}
             Damage::Standings(wrong) => {
-                let (region, before) = (&mut self.regions[case.slices.len() - 1], case.slices.last()?);
-                let numbers = region.lent_mut().get_mut(STANDINGS).filter(|_| case.call == Call::Compare)?;
+                let region = &mut self.regions[case.slices.len() - 1];
+                let numbers = region.lent_mut().get_mut(STANDINGS).filter(|_| case.export.name == "compare")?;
                 let right = numbers.to_vec();
-                wrong.put(numbers, before.get(STANDINGS)?);
+                wrong.put(numbers, case.answer().get(STANDINGS)?);
                 if numbers == right {
                     return None;
                 }
@@ -132,19 +137,17 @@ impl Checker {
 
     /// Lends the slices and calls the library.
     fn call(&mut self, case: &Case) -> u32 {
+        self.lend(case);
+        (case.export.call)(&case.numbers, &mut self.regions[..case.slices.len()])
+    }
+
+    fn lend(&mut self, case: &Case) {
         for ((region, slice), &placement) in self.regions.iter_mut().zip(&case.slices).zip(&case.placements) {
-            region.lend(slice, placement);
+            slice.lend(region, placement);
         }
-        let [a, b, c, d, e] = self.regions.as_mut_slice() else { unreachable!("there are five") };
-        match case.call {
-            Call::Verdict => {
-                let period = if case.shared { b.bytes() } else { c.bytes() };
-                library::verdict(a.bytes(), b.bytes(), period, d.bytes_mut())
-            }
-            Call::Compare => {
-                let second = if case.shared { a.bytes() } else { b.bytes() };
-                library::compare(a.bytes(), second, c.bytes_mut(), d.bytes_mut(), e.bytes_mut())
-            }
+        if let Some([one, other]) = case.export.readable.filter(|_| case.shared) {
+            let address = self.regions[one].address();
+            self.regions[other].lend_that_of(address);
         }
     }
 
@@ -153,7 +156,7 @@ impl Checker {
             return Err(format!("returned {returned}, not {}", due.returned));
         }
         for ((region, slice), name) in self.regions.iter().zip(&due.slices).zip(case.names()) {
-            region.verify(slice).map_err(|fault| format!("{name}: {fault}"))?;
+            slice.verify(region).map_err(|fault| format!("{name}: {fault}"))?;
         }
         Ok(())
     }

@@ -1,9 +1,9 @@
 //! Memory whose every byte beyond a lent slice is known: inaccessible pages before and after it, and canary bytes in between.
 
-use crate::library::{Bytes, BytesMut};
+use crate::library::{Cell, Cells, CellsMut};
 use std::ffi::c_void;
 use std::ops::Range;
-use std::{ptr, slice};
+use std::{mem, ptr, slice};
 
 const PAGE: usize = 4096;
 const NO_ACCESS: i32 = 0;
@@ -25,7 +25,7 @@ pub enum Placement {
     Start,
     /// The last byte touches the inaccessible page after it.
     End,
-    /// That many canaries before it, and canaries after it.
+    /// That many canaries before it, less where its cells would not be aligned, and canaries after it.
     Middle(usize),
     /// An empty slice whose pointer is NULL; any other slice goes to the end.
     Null,
@@ -45,6 +45,8 @@ enum Pointer {
     Real,
     Null,
     Guard,
+    /// Where another region's slice is.
+    Other(*const u8),
 }
 
 impl Region {
@@ -79,13 +81,14 @@ impl Region {
     }
 
     /// Puts a slice there. What was lent before becomes canaries again.
-    pub fn lend(&mut self, contents: &[u8], placement: Placement) {
+    pub fn lend<T: Cell>(&mut self, contents: &[T], placement: Placement) {
         self.set_canaries(self.lent.clone());
+        let contents = bytes_of(contents);
         let spare = self.capacity.checked_sub(contents.len()).expect("the region is large enough");
         let start = match placement {
             Placement::Start | Placement::Dangling => 0,
             Placement::End | Placement::Null => spare,
-            Placement::Middle(before) => before.min(spare),
+            Placement::Middle(before) => before.min(spare) / mem::size_of::<T>() * mem::size_of::<T>(),
         };
         self.pointer = match placement {
             Placement::Null if contents.is_empty() => Pointer::Null,
@@ -96,27 +99,47 @@ impl Region {
         self.memory_mut()[start..start + contents.len()].copy_from_slice(contents);
     }
 
-    pub fn bytes(&self) -> Bytes<'_> {
+    /// From now on the slice is the other region's, which is as long and is only read.
+    pub fn lend_that_of(&mut self, other: *const u8) {
+        self.pointer = Pointer::Other(other);
+    }
+
+    /// The address of the lent slice's first cell.
+    pub fn address(&self) -> *const u8 {
         match self.pointer {
-            Pointer::Real => Bytes::from(&self.memory()[self.lent.clone()]),
-            Pointer::Null => Bytes::NULL,
-            // An empty slice: no byte behind the pointer is read.
-            Pointer::Guard => Bytes::from(unsafe { slice::from_raw_parts(self.base, 0) }),
+            Pointer::Real => self.memory()[self.lent.clone()].as_ptr(),
+            Pointer::Null => ptr::null(),
+            Pointer::Guard => self.base,
+            Pointer::Other(address) => address,
         }
     }
 
-    pub fn bytes_mut(&mut self) -> BytesMut<'_> {
-        match self.pointer {
-            Pointer::Real => BytesMut::from(self.lent_mut()),
-            Pointer::Null => BytesMut::NULL,
-            // As above.
-            Pointer::Guard => BytesMut::from(unsafe { slice::from_raw_parts_mut(self.base, 0) }),
+    pub fn cells<T: Cell>(&self) -> Cells<'_, T> {
+        match self.address() {
+            address if address.is_null() => Cells::NULL,
+            // The lent cells, aligned; or none, and no byte behind the pointer is read.
+            address => Cells::from(unsafe { slice::from_raw_parts(address.cast(), self.length::<T>()) }),
         }
+    }
+
+    pub fn cells_mut<T: Cell>(&mut self) -> CellsMut<'_, T> {
+        let start = match self.pointer {
+            Pointer::Real => self.lent_mut().as_mut_ptr(),
+            Pointer::Null => return CellsMut::NULL,
+            Pointer::Guard => self.base,
+            Pointer::Other(_) => unreachable!("what is lent twice is only read"),
+        };
+        // As above, lent exclusively.
+        CellsMut::from(unsafe { slice::from_raw_parts_mut(start.cast(), self.length::<T>()) })
+    }
+
+    fn length<T: Cell>(&self) -> usize {
+        self.lent.len() / mem::size_of::<T>()
     }
 
     /// Compares the lent slice with what it should hold, and the canaries near it.
-    pub fn verify(&self, expected: &[u8]) -> Result<(), String> {
-        let memory = self.memory();
+    pub fn verify<T: Cell>(&self, expected: &[T]) -> Result<(), String> {
+        let (memory, expected) = (self.memory(), bytes_of(expected));
         let lent = &memory[self.lent.clone()];
         if lent != expected {
             let at = lent.iter().zip(expected).position(|(found, due)| found != due).unwrap_or(0);
@@ -176,6 +199,12 @@ impl Drop for Region {
     }
 }
 
+/// The bytes of cells as they are in memory.
+fn bytes_of<T: Cell>(cells: &[T]) -> &[u8] {
+    // Cells are numbers without padding: each of their bytes may be read.
+    unsafe { slice::from_raw_parts(cells.as_ptr().cast(), mem::size_of_val(cells)) }
+}
+
 /// The byte that stands at a place that is not lent.
 fn canary(at: usize) -> u8 {
     (at.wrapping_mul(37) >> 3) as u8 ^ 0xa5
@@ -189,15 +218,27 @@ mod tests {
     fn a_changed_byte_or_canary_is_found() {
         let mut region = Region::new(2 * PAGE);
         for placement in [Placement::Start, Placement::End, Placement::Middle(100)] {
-            region.lend(&[1, 2, 3], placement);
-            assert!(region.verify(&[1, 2, 3]).is_ok() && region.sweep().is_ok());
-            assert!(region.verify(&[1, 2, 4]).is_err());
+            region.lend(&[1_u8, 2, 3], placement);
+            assert!(region.verify(&[1_u8, 2, 3]).is_ok() && region.sweep().is_ok());
+            assert!(region.verify(&[1_u8, 2, 4]).is_err());
             for at in [-1, 1, 3] {
                 if region.damage(at) {
-                    assert!(region.verify(&[1, 2, 3]).is_err(), "{placement:?} {at}");
+                    assert!(region.verify(&[1_u8, 2, 3]).is_err(), "{placement:?} {at}");
                     region.damage(at);
                 }
             }
+        }
+    }
+    #[test]
+    fn cells_of_many_bytes_are_aligned_and_compared_to_the_byte() {
+        let mut region = Region::new(2 * PAGE);
+        for placement in [Placement::Start, Placement::End, Placement::Middle(101)] {
+            region.lend(&[1_u64, u64::MAX], placement);
+            assert_eq!(region.address().align_offset(8), 0);
+            assert!(region.verify(&[1, u64::MAX]).is_ok());
+            assert!(region.verify(&[1 | 1 << 56, u64::MAX]).is_err());
+            region.lend(&[1_u16, 999], placement);
+            assert!(region.verify(&[1_u16, 999]).is_ok() && region.damage(3) && region.verify(&[1_u16, 999]).is_err());
         }
     }
 }

@@ -37,6 +37,19 @@ impl Family {
         self.progress.iter().map(|(_, marks)| marks.len()).max().unwrap()
     }
 
+    pub fn leading_next(&self, state: u8, letter: usize) -> u8 {
+        self.leading[state as usize][letter] as u8
+    }
+
+    /// In the progress automaton of a leading state.
+    pub fn progress_next(&self, leading: u8, state: u8, letter: usize) -> u8 {
+        self.progress[leading as usize].0[state as usize][letter] as u8
+    }
+
+    pub fn is_marked(&self, leading: u8, state: u8) -> bool {
+        self.progress[leading as usize].1[state as usize]
+    }
+
     /// The leading state after a prefix and some turns of a period.
     fn leading_after(&self, prefix: &[u8], period: &[u8], turns: usize) -> usize {
         let start = run(&self.leading, 0, prefix);

@@ -23,6 +23,31 @@ pub fn walk(sheet: &Sheet, from: usize, word: &[u8]) -> usize {
     word.iter().fold(from, |state, &letter| next[state * sheet.letters + letter as usize] as usize)
 }
 
+/// What the pass holds between two parts of a prefix, as its answer tells it.
+#[derive(Clone, Copy, Debug, PartialEq, Eq)]
+pub struct Held {
+    pub failed: bool,
+    /// 0 once it failed.
+    pub state: usize,
+    /// How many letters were passed, or the position of the first that is out of range.
+    pub position: usize,
+}
+
+/// The pass over one more part. A state that the sheet has not counts as failed where it stands; a position is told as far as a number goes.
+pub fn pass_on(sheet: &Sheet, held: Held, part: &[u8]) -> Held {
+    let failed = |position| Held { failed: true, state: 0, position };
+    if held.failed || held.state >= sheet.states {
+        return failed(held.position);
+    }
+    match part.iter().position(|&letter| letter as usize >= sheet.letters) {
+        Some(at) => failed(held.position.saturating_add(at)),
+        None => {
+            let position = held.position.saturating_add(part.len());
+            Held { failed: false, state: walk(sheet, held.state, part), position }
+        }
+    }
+}
+
 #[cfg(test)]
 mod tests {
     use super::*;

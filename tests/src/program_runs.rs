@@ -1,7 +1,8 @@
 //! Runs of programs on files at random, in a folder of their own: all that they print and every file there afterwards is compared with what
-//! is due.
+//! is due. Each run ends with status 0.
 
 use crate::random::Random;
+use crate::said::said;
 use std::collections::BTreeMap;
 use std::path::PathBuf;
 use std::process::{Command, ExitCode};
@@ -34,9 +35,10 @@ pub struct Left {
 
 impl Run {
     /// Of a program that takes no words and leaves its files alone; one that is none is missing.
-    pub fn reading(files: [(&'static str, Option<Vec<u8>>); 2], stdout: String, kind: String) -> Self {
+    pub fn reading(program: &str, files: [(&'static str, Option<Vec<u8>>); 2], stdout: String, kind: String) -> Self {
+        let stderr = said(program, &[0, 1].map(|at| (files[at].0, files[at].1.as_deref())), &stdout);
         let files: Files = files.into_iter().filter_map(|(name, bytes)| Some((name, bytes?))).collect();
-        let due = Left { stdout, stderr: String::new(), files: files.clone() };
+        let due = Left { stdout, stderr, files: files.clone() };
         Run { program: 0, words: Vec::new(), files, due, kind }
     }
 }
@@ -71,7 +73,7 @@ fn all_runs(
     let mut met: BTreeMap<String, usize> = BTreeMap::new();
     for at in 0..runs {
         let run = run(&mut random).map_err(|fault| format!("run {at}: {fault}"))?;
-        let left = programs.run(&run)?;
+        let left = programs.run(&run).map_err(|fault| format!("run {at}: {fault}"))?;
         if left != run.due {
             let name = programs.paths[run.program].display();
             return Err(format!(
@@ -112,12 +114,21 @@ impl Programs {
         if self.folder.exists() {
             fs::remove_dir_all(&self.folder).map_err(told)?;
         }
-        fs::create_dir_all(&self.folder).map_err(told)?;
+        fs::create_dir(&self.folder).map_err(|fault| format!("{}: {fault}", self.folder.display()))?;
         for (name, bytes) in &run.files {
             fs::write(self.folder.join(name), bytes).map_err(told)?;
         }
         let mut command = Command::new(&self.paths[run.program]);
         let output = command.args(&run.words).current_dir(&self.folder).output().map_err(told)?;
+        if !output.status.success() {
+            return Err(format!(
+                "{} {:?} with {:?}: {}",
+                self.paths[run.program].display(),
+                run.words,
+                run.files,
+                output.status
+            ));
+        }
         let printed = |bytes: Vec<u8>| String::from_utf8(bytes).map_err(|fault| fault.to_string());
         let mut files = Files::new();
         for entry in fs::read_dir(&self.folder).map_err(told)? {

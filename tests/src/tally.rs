@@ -1,57 +1,32 @@
 //! Counts of the cases by kind and outcome, and which of them must not be 0.
 
-use crate::case::{Call, Case};
+use crate::case::Case;
 use crate::check::Outcome;
+use crate::export::{Export, Slice, EXPORTS};
 use crate::guarded::Placement;
-use crate::inclusion::Inclusion;
 use crate::sheet::{Part, Sheet};
 use std::collections::{BTreeMap, BTreeSet};
 use std::fmt;
 
-const DUE_OF_VERDICT: [&str; 20] = [
+/// Beyond the refusals that the table of exports lists.
+const DUE_OF_ALL: [&str; 2] = ["returned 0", "answer slice longer than needed"];
+
+const DUE_OF_VERDICT: [&str; 9] = [
     "accepted",
     "rejected",
-    "refused 1 First",
-    "refused 2 First",
-    "refused 3 First",
-    "refused 4 First",
-    "refused 5 First",
-    "refused 6 First",
-    "refused 9 Opening",
-    "refused 8 Loop",
-    "refused 9 Loop",
-    "returned 0",
     "i above 0",
     "j above 1",
-    "opening of 10,000 scenes or more",
-    "loop of 10,000 scenes or more",
+    "opening of 10,000 cells or more",
+    "loop of 10,000 cells or more",
     "NULL pointer",
     "pointer to an inaccessible page",
     "one slice lent twice",
-    "answer slice longer than needed",
 ];
 
-const DUE_OF_COMPARE: [&str; 33] = [
+const DUE_OF_COMPARE: [&str; 16] = [
     "contained",
     "missing",
-    "refused 1 First",
-    "refused 2 First",
-    "refused 3 First",
-    "refused 4 First",
-    "refused 5 First",
-    "refused 6 First",
-    "refused 1 Second",
-    "refused 2 Second",
-    "refused 3 Second",
-    "refused 4 Second",
-    "refused 5 Second",
-    "refused 6 Second",
     "both sheets at fault",
-    "refused 7 Second",
-    "refused 22 Work",
-    "refused 23 Opening",
-    "refused 23 Loop",
-    "returned 0",
     "contained, more than 32 pairs reached",
     "opening of 8 scenes or more",
     "opening of 30 scenes or more",
@@ -69,42 +44,56 @@ const DUE_OF_COMPARE: [&str; 33] = [
 
 #[derive(Default)]
 pub struct Tally {
-    kinds: BTreeMap<(Call, &'static str), usize>,
-    outcomes: BTreeMap<(Call, String), usize>,
+    kinds: BTreeMap<(&'static str, &'static str), usize>,
+    outcomes: BTreeMap<(&'static str, String), usize>,
 }
 
 impl Tally {
-    pub fn add(&mut self, case: &Case, outcome: Outcome) {
-        *self.kinds.entry((case.call, case.kind)).or_default() += 1;
+    pub fn add(&mut self, case: &Case, outcome: &Outcome) {
+        let name = case.export.name;
+        *self.kinds.entry((name, case.kind)).or_default() += 1;
         let mut labels = lending_labels(case);
         labels.extend(outcome_labels(case, outcome));
         for label in labels {
-            *self.outcomes.entry((case.call, label)).or_default() += 1;
+            *self.outcomes.entry((name, label)).or_default() += 1;
         }
     }
 
-    pub fn of_call(&self, call: Call) -> usize {
-        self.kinds.iter().filter(|((of, _), _)| *of == call).map(|(_, count)| count).sum()
+    pub fn of_call(&self, name: &str) -> usize {
+        self.kinds.iter().filter(|((of, _), _)| *of == name).map(|(_, count)| count).sum()
     }
 
-    /// The outcomes that every run must have and that this one has not.
-    pub fn lacking(&self) -> Vec<String> {
-        let due = DUE_OF_VERDICT.iter().map(|label| (Call::Verdict, label.to_string()));
-        let due = due.chain(DUE_OF_COMPARE.iter().map(|label| (Call::Compare, label.to_string())));
-        due.filter(|key| !self.outcomes.contains_key(key)).map(|(call, label)| format!("{call:?}: {label}")).collect()
+    /// The outcomes that every run must have and that this one has not, and the refusals that it has and that no table lists.
+    pub fn faults(&self) -> Vec<String> {
+        let due = EXPORTS.iter().flat_map(|export| due_labels(export).into_iter().map(|label| (export.name, label)));
+        let due: BTreeSet<(&str, String)> = due.collect();
+        let lacking = due.iter().filter(|key| !self.outcomes.contains_key(key)).map(|key| ("never met", key));
+        let refusals = self.outcomes.keys().filter(|(_, label)| label.starts_with("refused "));
+        let unlisted = refusals.filter(|key| !due.contains(key)).map(|key| ("not listed", key));
+        lacking.chain(unlisted).map(|(fault, (name, label))| format!("{fault}: {name}: {label}")).collect()
     }
+}
+
+fn due_labels(export: &Export) -> Vec<String> {
+    let refusals = export.refusals.concat().into_iter().map(|refusal| format!("refused {refusal}"));
+    let more: &[&str] = match export.name {
+        "verdict" => &DUE_OF_VERDICT,
+        "compare" => &DUE_OF_COMPARE,
+        _ => &["given"],
+    };
+    refusals.chain(DUE_OF_ALL.iter().chain(more).map(|label| label.to_string())).collect()
 }
 
 impl fmt::Display for Tally {
     fn fmt(&self, out: &mut fmt::Formatter) -> fmt::Result {
-        for call in [Call::Verdict, Call::Compare] {
-            writeln!(out, "{call:?}: {} cases", self.of_call(call))?;
+        for Export { name, .. } in &EXPORTS {
+            writeln!(out, "{name}: {} cases", self.of_call(name))?;
             writeln!(out, "  by kind")?;
-            for ((_, kind), count) in self.kinds.iter().filter(|((of, _), _)| *of == call) {
+            for ((_, kind), count) in self.kinds.iter().filter(|((of, _), _)| of == name) {
                 writeln!(out, "    {count:>8}  {kind}")?;
             }
             writeln!(out, "  by outcome, and what else was met")?;
-            for ((_, label), count) in self.outcomes.iter().filter(|((of, _), _)| *of == call) {
+            for ((_, label), count) in self.outcomes.iter().filter(|((of, _), _)| of == name) {
                 writeln!(out, "    {count:>8}  {label}")?;
             }
         }
@@ -125,59 +114,61 @@ fn lending_labels(case: &Case) -> Vec<String> {
     if case.shared {
         labels.push("one slice lent twice".to_string());
     }
-    if case.call == Call::Verdict {
-        for (name, slice) in [("opening", 1), ("loop", 2)] {
-            if case.slices[slice].len() >= 10_000 {
-                labels.push(format!("{name} of 10,000 scenes or more"));
-            }
+    for (name, slice) in case.names().zip(&case.slices) {
+        if slice.len() >= 10_000 {
+            labels.push(format!("{name} of 10,000 cells or more"));
         }
-        if case.slices[3].len() > crate::layout::VERDICT_BYTES {
-            labels.push("answer slice longer than needed".to_string());
-        }
+    }
+    if case.answer().len() > case.export.answer_bytes {
+        labels.push("answer slice longer than needed".to_string());
     }
     labels
 }
 
-fn outcome_labels(case: &Case, outcome: Outcome) -> Vec<String> {
+fn outcome_labels(case: &Case, outcome: &Outcome) -> Vec<String> {
     let mut labels = Vec::new();
     let mut add = |condition: bool, label: &str| {
         if condition {
             labels.push(label.to_string());
         }
     };
-    match outcome {
-        Outcome::Verdict(given) => {
-            add(given.accepted, "accepted");
-            add(!given.accepted, "rejected");
-            add(given.before > 0, "i above 0");
-            add(given.turns > 1, "j above 1");
+    match (outcome, case.export.name) {
+        (Outcome::Given(numbers), "verdict") => {
+            add(numbers[0] == 1, "accepted");
+            add(numbers[0] == 0, "rejected");
+            add(numbers[1] > 0, "i above 0");
+            add(numbers[2] > 1, "j above 1");
         }
-        Outcome::Inclusion(Inclusion::Contained { reached }) => {
-            add(true, "contained");
-            add(reached > 32, "contained, more than 32 pairs reached");
+        (Outcome::Given(numbers), "compare") => match numbers[..] {
+            [1, _, prefix, period, ref standings @ ..] => {
+                add(true, "missing");
+                add(prefix >= 8, "opening of 8 scenes or more");
+                add(prefix >= 30, "opening of 30 scenes or more");
+                add(period >= 33, "loop of 33 scenes or more");
+                add(period >= 1000, "loop of 1,000 scenes or more");
+                let exact = case.slices[2].len() == prefix && case.slices[3].len() == period;
+                add(exact, "both slices exactly as long as the show");
+                for (&standing, name) in
+                    standings.iter().zip(["first waits", "first ends", "second waits", "second ends"])
+                {
+                    add(standing > 0, &format!("{name} above 0"));
+                }
+                let with_zero: BTreeSet<usize> = standings.iter().copied().chain([0]).collect();
+                add(with_zero.len() == 5, "waits and ends above 0, no two alike");
+            }
+            _ => {
+                add(true, "contained");
+                add(numbers[1] > 32, "contained, more than 32 pairs reached");
+            }
+        },
+        (Outcome::Given(_), _) => add(true, "given"),
+        (Outcome::Refused(number, part), name) => {
+            add(true, &format!("refused {number} {}", part.name()));
+            let fault =
+                |slice: &Slice| matches!(slice, Slice::Bytes(sheet) if Sheet::read(sheet, Part::First).is_err());
+            add(name == "compare" && case.slices[..2].iter().all(fault), "both sheets at fault");
         }
-        Outcome::Inclusion(Inclusion::Missing { prefix, period, standings: [first, second], .. }) => {
-            add(true, "missing");
-            add(prefix >= 8, "opening of 8 scenes or more");
-            add(prefix >= 30, "opening of 30 scenes or more");
-            add(period >= 33, "loop of 33 scenes or more");
-            add(period >= 1000, "loop of 1,000 scenes or more");
-            let exact = case.slices[2].len() == prefix && case.slices[3].len() == period;
-            add(exact, "both slices exactly as long as the show");
-            add(first.waits > 0, "first waits above 0");
-            add(first.ends > 0, "first ends above 0");
-            add(second.waits > 0, "second waits above 0");
-            add(second.ends > 0, "second ends above 0");
-            let with_zero = BTreeSet::from([0, first.waits, first.ends, second.waits, second.ends]);
-            add(with_zero.len() == 5, "waits and ends above 0, no two alike");
-        }
-        Outcome::Refused(number, part) => {
-            add(true, &format!("refused {number} {part:?}"));
-            let sheets = [(0, Part::First), (1, Part::Second)];
-            let both = sheets.iter().all(|&(at, part)| Sheet::read(&case.slices[at], part).is_err());
-            add(case.call == Call::Compare && both, "both sheets at fault");
-        }
-        Outcome::AnswerTooShort => add(true, "returned 0"),
+        (Outcome::AnswerTooShort, _) => add(true, "returned 0"),
     }
     labels
 }

@@ -1,4 +1,7 @@
 mod Blocks
+mod Decisions
 mod Answers
+mod Spoken
+mod Laws
 mod ReadBack
 mod Example

@@ -1,1 +1,3 @@
+pub mod Decided
 pub mod Text
+pub mod Said

@@ -1,12 +1,10 @@
 -- What the comparison prints for each answer (01, and the last block 02), block by block. Assumes nothing.
-use mathlib.Core.Bool.{cond}
+use mathlib.Core.Bool.{Bool, cond}
 use mathlib.Core.List.{List, [], _∷_, _++_}
 use Prim.Native.Nat.{ℕ, _≤_}
-use lib.ListN.{length, take, replicate}
-use Rattle.slices.specs.Refusals.{Fault, Result, given, refused, unless}
-use Rattle.fdfa.specs.Enumeration.{Witness}
+use lib.ListN.{take}
+use Rattle.slices.specs.Refusals.{Result, given, refused}
 use Rattle.fdfa.specs.Inclusion as model
-use Rattle.packed.specs.Layout.{decode}
 use Rattle.numbers.specs.Digits.{field}
 use Rattle.lasso_text.specs.Text.{lassoText}
 use Rattle.console.specs.Printed.{refusalText}
@@ -15,8 +13,8 @@ use Rattle.lasso_search.specs.Lassos.{prefixOf, periodOf}
 use Rattle.inclusion.specs.declared.Comparison.{Comparison}
 use Rattle.inclusion.specs.declared.Outcome.{Outcome}
 use Rattle.inclusion.specs.declared.Outcome.the-variants.{Absent, Found, Refused}
-use Rattle.inclusion.specs.Outcomes.{Answer, answerOf}
-use Rattle.inclusion.specs.Calls.{Slices, callFault, compareStart}
+use Rattle.inclusion.specs.Outcomes.{numbersOf, isAbsent}
+use Rattle.compare.specs.Decided.{decided}
 
 -- "verdict reached opening loop" and a line feed
 abbrev pub verdictTitle : List ℕ
@@ -46,26 +44,16 @@ abbrev pub standingBlock : Comparison → List ℕ
 standingBlock z = standingTitle ++ standingLine (z .first) ++ standingLine (z .second)
 
 -- The first block, for a counter-show its text, and the last; or the refusal.
-abbrev pub answerText : Result Answer → Witness → List ℕ
-answerText (given a) w =
-    cond (a .none) (verdictBlock contained (a .numbers) ++ standingBlock (a .numbers))
-    (verdictBlock missing (a .numbers) ++ lassoText (prefixOf w) (periodOf w) ++ standingBlock (a .numbers))
-answerText (refused r) w = refusalText r
+abbrev pub answerText : Result model.Comparison → List ℕ
+answerText (given C) =
+    cond (isAbsent (C .witness)) (verdictBlock contained (numbersOf C) ++ standingBlock (numbersOf C))
+    (verdictBlock missing (numbersOf C)
+    ++ lassoText (prefixOf (C .witness)) (periodOf (C .witness)) ++ standingBlock (numbersOf C))
+answerText (refused r) = refusalText r
 
--- The slices that the program lends: 4,096 scenes for each part of a show, 8,192 cells.
-abbrev pub room : Slices
-room = record { opening = replicate 4096 0; period = replicate 4096 0; work = replicate 8192 0 }
-
--- The comparison of two sheets, and what it is refused for in that room.
-abbrev pub compared : List ℕ → List ℕ → model.Comparison
-compared b c = model.comparison (decode b) (decode c)
-
-abbrev pub programFault : List ℕ → List ℕ → Fault
-programFault b c = callFault (compareStart b c (length (room .work))) (compared b c) room
-
--- What is printed for the bytes of two sheets.
-unfoldable pub programText : List ℕ → List ℕ → List ℕ
-programText b c = answerText (unless (programFault b c) (answerOf (compared b c))) (compared b c .witness)
+-- What is printed for the bytes that came of two files, in any form or packed only.
+abbrev pub programText : Bool → List ℕ → List ℕ → List ℕ
+programText any b c = answerText (decided any b c)
 
 -- Of the inner function, for the answer of the code: the show is what was written to the slices.
 abbrev pub comparisonText : Outcome → List ℕ → List ℕ → List ℕ

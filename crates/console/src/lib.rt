@@ -1,23 +1,42 @@
-// What the programs share: files read and written whole, refusal 25, and what is printed.
+// What the programs share: files read whole, refusal 25, what the arguments ask for, and what is printed.
 use slices::Part;
 use slices::Refusal;
 use slices::refuse;
 ghost use mathlib.Core.Path.{_≡_};
 ghost use Rattle.console.specs.Files.{lengthFault, lengthsFault, saysOf};
 
-mod files; // files.rt: a file's bytes in a lent slice, and back
+mod files; // files.rt: a file's bytes in a lent slice
 mod printing; // printing.rt: words, numbers and refusals on standard output
+mod options; // options.rt: what the arguments ask for
 
 pub use files::load;
-pub use files::save;
+pub use options::arguments;
 pub use printing::print;
 pub use printing::print_refusal;
 pub use printing::refusal_text;
+pub use printing::say;
 
 // The longest file that a program takes. One byte more is read, to tell that a file is longer.
 const LONGEST: usize = 65536;
 
 pub const ROOM: usize = LONGEST + 1;
+
+// What an argument is: a name, the end of the options, `--explain`, or another option.
+enum Word {
+    Name,
+    End,
+    Explain,
+    Other,
+}
+
+// What the arguments ask for: the usage, an explanation, and how many names there are; the last two by their place.
+pub struct Asked {
+    pub usage: bool,
+    pub explain: bool,
+    pub names: usize,
+    pub first: usize,
+    pub second: usize,
+}
 
 // Whether a file is short enough, or refusal 25.
 pub enum Length {

@@ -12,9 +12,16 @@ ghost use Rattle.console.specs.Printed.{partField, refusalText, Shows};
 // Room for a refusal: its line of names, 19 bytes, two numbers and a name.
 const REFUSAL: usize = 80;
 
-// Writes all of a text to standard output.
+// Writes all of a text to standard output. A write that fails is said on standard error.
 pub fn print(text: &[u8]) {
-    io::write_all(libc::STDOUT_FILENO, text);
+    if !io::write_all(libc::STDOUT_FILENO, text) {
+        os::fail(b"standard output");
+    }
+}
+
+// Writes all of a text to standard error.
+pub fn say(text: &[u8]) {
+    io::write_all(libc::STDERR_FILENO, text);
 }
 
 // A text at the start of a slice, and its length.

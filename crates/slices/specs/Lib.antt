@@ -7,3 +7,4 @@ pub mod LassoLetters
 pub mod Capped
 pub mod Seconds
 pub mod Halves
+pub mod Texts

@@ -1,3 +1,5 @@
 mod Blocks
 mod Files
+mod Decisions
+mod Spoken
 mod Example

@@ -6,7 +6,7 @@ use Rattle.slices.specs.Refusals.{Result, given, refused}
 use Rattle.fdfa.specs.Acceptance.{Verdict}
 use Rattle.numbers.specs.Digits.{field}
 use Rattle.console.specs.Printed.{refusalText}
-use Rattle.verdict.specs.Judged.{fileVerdict}
+use Rattle.verdict.specs.Judged.{judged}
 
 -- "verdict i j place end" and a line feed
 abbrev pub title : List ℕ
@@ -26,6 +26,6 @@ abbrev pub verdictText : Result Verdict → List ℕ
 verdictText (given x) = verdictBlock x
 verdictText (refused r) = refusalText r
 
--- What is printed for the bytes of two files, with room for 4,096 letters of each part.
-abbrev pub programText : List ℕ → List ℕ → List ℕ
-programText b t = verdictText (fileVerdict b t 4096 4096)
+-- What is printed for the bytes that came of two files, the sheet in any form or packed only.
+abbrev pub programText : Bool → List ℕ → List ℕ → List ℕ
+programText any b t = verdictText (judged any b t)

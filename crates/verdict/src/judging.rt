@@ -1,26 +1,28 @@
 // The verdict on a show that is given as text.
-use crate::text::verdict_text;
+use console::Length;
 use lasso_text::Lengths;
 use membership::Judgement;
 use packed::Validity;
+use sheet_forms::SHEET;
+use sheet_forms::form_in;
+use sheet_forms::pack;
 use slices::Part;
+use slices::Written;
 ghost use mathlib.Core.Path.{_≡_};
-ghost use Prim.Native.Nat.{_≤_};
 ghost use lib.ListN.{length};
 ghost use Rattle.slices.specs.declared.Part.the-variants.{First};
 ghost use Rattle.slices.specs.Refusals.{sound};
 ghost use Rattle.packed.specs.Faults.{sheetFault};
 ghost use Rattle.membership.specs.Verdict.{saysOf};
-ghost use Rattle.console.specs.Printed.{Shows};
-ghost use Rattle.verdict.specs.Judged.{fileVerdict};
-ghost use Rattle.verdict.specs.Text.{programText};
+ghost use Rattle.verdict.specs.Judged.{fileVerdict, ofSheet, sheetOf, judged};
 
 const SCENES: usize = 4096;
 
 // The verdict on the show of a text, which is read into the slices.
 fn read_and_judge(sheet: &[u8], show: &[u8], opening: &mut [u8], period: &mut [u8]) -> Judgement
     requires { ⌜ sheetFault First (now sheet) ≡ sound ⌝ }
-    ensures { λ r. ⌜ saysOf r ≡ fileVerdict (now (sheet .entry)) (now (show .entry)) (length (now (opening .entry))) (length (now (period .entry))) ⌝ }
+    ensures { λ r. ⌜ saysOf r ≡ fileVerdict (now (sheet .entry)) (now (show .entry)) (length (now (opening .entry)))
+        (length (now (period .entry))) ⌝ }
 {
     let lengths = lasso_text::read(show, Part::Second, opening, period);
     match lengths {
@@ -44,10 +46,25 @@ fn judge(sheet: &[u8], show: &[u8]) -> Judgement
     }
 }
 
-// What is printed for the bytes of two files.
-pub fn put_answer(sheet: &[u8], show: &[u8], out: &mut [u8]) -> usize
-    requires { ⌜ 128 ≤ length (now out) ⌝ }
-    ensures { λ n. ⌜ Shows (programText (now (sheet .entry)) (now (show .entry))) (now (out .entry)) (now (out .exit)) n ⌝ }
+// The sheet that a file is, then the text.
+fn judge_sheet(any: bool, sheet: &[u8], show: &[u8]) -> Judgement
+    ensures { λ r. ⌜ saysOf r ≡ ofSheet (sheetOf any (now (sheet .entry))) (now (show .entry)) ⌝ }
 {
-    verdict_text(judge(sheet, show), out)
+    let mut bytes = [0u8; SHEET];
+    let answer = pack(form_in(any, sheet), sheet, Part::First, &mut bytes);
+    match answer {
+        Written::Refused(r) => Judgement::Refused(r),
+        Written::Filled(n) => judge(&bytes[..n], show),
+    }
+}
+
+// Two files, of which so many bytes came.
+pub fn judge_files(any: bool, sheet: &[u8], show: &[u8]) -> Judgement
+    ensures { λ r. ⌜ saysOf r ≡ judged any (now (sheet .entry)) (now (show .entry)) ⌝ }
+{
+    let length = console::check_lengths(sheet.len(), show.len());
+    match length {
+        Length::Refused(r) => Judgement::Refused(r),
+        Length::Good => judge_sheet(any, sheet, show),
+    }
 }

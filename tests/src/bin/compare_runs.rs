@@ -20,7 +20,7 @@ fn main() -> ExitCode {
         let due = printed::comparison(&mut search, &first, &second);
         read_back(&mut search, &first, &second, &due)?;
         let kind = kind(&due).to_string();
-        Ok(Run::reading([("first.sheet", Some(first)), ("second.sheet", Some(second))], due, kind))
+        Ok(Run::reading("compare", [("first.sheet", Some(first)), ("second.sheet", Some(second))], due, kind))
     })
 }
 

@@ -1,10 +1,11 @@
-//! Holds the program `driver` to the independent implementation, line by line.
+//! Holds the driver to the independent implementation, line by line.
 //!
 //! driver_lines stored STDIN STDOUT                        a stored input and output agree with what is due
 //! driver_lines random COUNT [SEED] [--driver PATH]        lines at random through one run of the driver (else FDFA_DRIVER is its path)
 //! driver_lines changes [--driver PATH]                    every change of one byte of a sheet's text at both levels, a show's and an automaton's, and long shows, in the same way
 //! driver_lines imports [--driver PATH]                    automata at random, imported, and verdicts on their sheets, in the same way
 //! driver_lines passes [--driver PATH]                     prefixes at random, cut into parts in every way, and verdicts on them, in the same way
+//! driver_lines long [--driver PATH]                       lines and slices of more than 64 Mi bytes and cells, in the same way
 //! driver_lines rows [STDIN STDOUT]                        the rows to store, each with what is due; or both into two files
 //! driver_lines line SEED                                  one line at random, with what is due
 //! driver_lines answer [--wrong KIND]                      stands in for the driver, with a fault or without
@@ -17,6 +18,7 @@ use outside::driver::cuts::cut_lines;
 use outside::driver::damaged_answer::{damages, KINDS};
 use outside::driver::imported::imported_lines;
 use outside::driver::long_shows::long_lines;
+use outside::driver::long_slices::long_slices;
 use outside::driver::random_line::Sent;
 use outside::driver::report::Report;
 use outside::driver::session::{hold, random_lines};
@@ -38,6 +40,7 @@ fn main() -> ExitCode {
         ["changes", rest @ ..] => fixed(rest, changed_lines().chain(long_lines()), "changes of one byte, long shows"),
         ["imports", rest @ ..] => fixed(rest, imported_lines(SEED), "automata and verdicts on their sheets"),
         ["passes", rest @ ..] => fixed(rest, cut_lines(SEED), "prefixes cut in every way and verdicts on them"),
+        ["long", rest @ ..] => fixed(rest, long_slices(), "long lines and slices"),
         ["rows"] => print_rows(),
         ["rows", input, output] => store_rows(input, output),
         ["line", seed] => number(seed).map(one_line),
@@ -45,7 +48,7 @@ fn main() -> ExitCode {
         ["answer", "--wrong", kind] => stand_in::run(Some(kind)),
         ["self-test"] => self_test(),
         _ => {
-            Err("usage: driver_lines stored STDIN STDOUT | random COUNT [SEED] [--driver PATH] | changes | imports | passes | rows | self-test"
+            Err("usage: driver_lines stored STDIN STDOUT | random COUNT [SEED] [--driver PATH] | changes | imports | passes | long | rows | self-test"
                 .into())
         }
     };

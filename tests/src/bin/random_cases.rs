@@ -8,8 +8,8 @@
 use outside::case::Case;
 use outside::check::{Checker, Damage, Outcome, WrongStandings};
 use outside::crash;
+use outside::export::Slice;
 use outside::guarded::{Placement, Region};
-use outside::inclusion::Inclusion;
 use outside::random::Random;
 use outside::rows::rows;
 use outside::tally::Tally;
@@ -17,7 +17,7 @@ use std::collections::BTreeMap;
 use std::process::{Command, ExitCode};
 use std::time::Instant;
 
-const CASES: usize = 500_000;
+const CASES: usize = 625_000;
 const SEED: u64 = 20_261_115;
 /// All canaries of all regions are compared once in so many cases; those near a slice after each.
 const SWEEP: usize = 1000;
@@ -64,16 +64,16 @@ fn all_cases(seed: u64, cases: usize) -> Result<(), String> {
         let case = Case::random(seed, &mut checker.search);
         let outcome = checker.check(&case);
         let outcome = outcome.map_err(|fault| format!("case {index}, seed {seed}: {fault}\n{}", describe(&case)))?;
-        tally.add(&case, outcome);
+        tally.add(&case, &outcome);
         if (index + 1) % SWEEP == 0 {
             checker.sweep().map_err(|fault| format!("case {index} or up to {SWEEP} before: {fault}"))?;
         }
     }
     checker.sweep()?;
     print!("{tally}");
-    let lacking = tally.lacking();
-    if !lacking.is_empty() {
-        return Err(format!("never met: {}", lacking.join("; ")));
+    let faults = tally.faults();
+    if !faults.is_empty() {
+        return Err(faults.join("\n"));
     }
     let seconds = began.elapsed().as_secs_f64();
     println!("{} rows and {cases} cases of seed {seed} agree ({seconds:.1} s)", rows.len());
@@ -90,20 +90,31 @@ fn one_case(seed: u64) -> Result<(), String> {
     Ok(())
 }
 
-/// The kind of a case and its slices, byte by byte; of a long slice the first bytes.
+/// The kind of a case, its numbers and its slices, cell by cell; of a long slice the first cells.
 fn describe(case: &Case) -> String {
-    const MOST_SHOWN: usize = 2000;
-    let mut text = format!("{:?}, {}, shared {}\n", case.call, case.kind, case.shared);
-    for ((name, slice), placement) in case.names().iter().zip(&case.slices).zip(&case.placements) {
-        let shown: Vec<String> = slice.iter().take(MOST_SHOWN).map(u8::to_string).collect();
-        let rest = if slice.len() > MOST_SHOWN { " .." } else { "" };
-        text += &format!("{name} ({} bytes, {placement:?}): {}{rest}\n", slice.len(), shown.join(" "));
+    let mut text = format!("{}, {}, shared {}\n", case.export.name, case.kind, case.shared);
+    for (name, number) in case.export.numbers.iter().zip(&case.numbers) {
+        text += &format!("{name} {number}\n");
+    }
+    for ((name, slice), placement) in case.names().zip(&case.slices).zip(&case.placements) {
+        let shown = match slice {
+            Slice::Bytes(cells) => shown(cells),
+            Slice::Seconds(cells) => shown(cells),
+            Slice::Work(cells) => shown(cells),
+        };
+        text += &format!("{name} ({} cells, {placement:?}): {shown}\n", slice.len());
     }
     text
 }
 
+fn shown<T: ToString>(cells: &[T]) -> String {
+    const MOST_SHOWN: usize = 2000;
+    let shown: Vec<String> = cells.iter().take(MOST_SHOWN).map(T::to_string).collect();
+    shown.join(" ") + if cells.len() > MOST_SHOWN { " .." } else { "" }
+}
+
 fn self_test() -> Result<(), String> {
-    const CASES: usize = 400;
+    const CASES: usize = 1000;
     const LEAST: usize = 10;
     let mut checker = Checker::default();
     let mut seeds = Random::new(SEED);
@@ -118,7 +129,7 @@ fn self_test() -> Result<(), String> {
                 Some(true) => {
                     found += 1;
                     if let Damage::Standings(wrong) = damage {
-                        *standings.entry((wrong, named(outcome))).or_default() += 1;
+                        *standings.entry((wrong, named(&outcome))).or_default() += 1;
                     }
                 }
                 Some(false) => return Err(format!("seed {seed}: {damage:?} was not found")),
@@ -142,10 +153,9 @@ fn self_test() -> Result<(), String> {
 /// What becomes of a comparison that fills its answer slice.
 const OUTCOMES: [&str; 3] = ["missing", "contained", "refused"];
 
-fn named(outcome: Outcome) -> &'static str {
+fn named(outcome: &Outcome) -> &'static str {
     match outcome {
-        Outcome::Inclusion(Inclusion::Missing { .. }) => OUTCOMES[0],
-        Outcome::Inclusion(Inclusion::Contained { .. }) => OUTCOMES[1],
+        Outcome::Given(numbers) => OUTCOMES[1 - numbers[0]],
         _ => OUTCOMES[2],
     }
 }
@@ -166,7 +176,7 @@ fn damages(case: &Case) -> Vec<Damage> {
 /// Lends a slice that touches the inaccessible page after it (or, for a negative number, before it) and reads a byte.
 fn touch(at: isize) {
     let mut region = Region::new(1);
-    region.lend(&[0; 8], if at < 0 { Placement::Start } else { Placement::End });
+    region.lend(&[0_u8; 8], if at < 0 { Placement::Start } else { Placement::End });
     crash::now_running(at.unsigned_abs() as u64);
     println!("read {}", region.touch(at));
 }

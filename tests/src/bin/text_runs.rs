@@ -56,6 +56,7 @@ fn main() -> ExitCode {
         let seconds = seconds_file.as_ref().map(|bytes| bytes.clone().unwrap_or_default());
         let sheet = sheet_file.clone().unwrap_or_default();
         let done = unpack(&sheet, seconds.as_deref());
+        let sheet_is_long = sheet.len() > LONGEST_FILE;
         let level = if seconds.is_some() { "level four" } else { "level three" };
         let kind = kind("unpack", &done, level);
         if let [text] = done.made.as_slice() {
@@ -63,6 +64,9 @@ fn main() -> ExitCode {
         }
         let files = [("sheet", sheet_file), ("seconds", seconds_file.flatten())];
         let words = if level == "level four" { vec!["sheet", "text", "seconds"] } else { vec!["sheet", "text"] };
+        // A sheet that is too long is refused before the seconds are read.
+        let read = if sheet_is_long { &words[..1] } else { &["sheet", "seconds"][..words.len() - 1] };
+        let done = after_unread(read, &files, done);
         Ok(run(random, 1, words, files, &["text"], done, kind))
     })
 }
@@ -94,7 +98,16 @@ fn packed(random: &mut Random, sheet: &[u8], seconds: Option<&[u8]>, text: Vec<u
     } else {
         (vec!["text", "sheet"], &["sheet"])
     };
-    Ok(run(random, 0, words, [("text", text_file), ("other", None)], targets, done, kind))
+    let files = [("text", text_file), ("other", None)];
+    let done = after_unread(&["text"], &files, done);
+    Ok(run(random, 0, words, files, targets, done, kind))
+}
+
+/// Before all else it is said of those that are read and are not there.
+fn after_unread(read: &[&str], files: &[(&'static str, Option<Vec<u8>>); 2], done: Done) -> Done {
+    let missing = files.iter().filter(|(name, bytes)| read.contains(name) && bytes.is_none());
+    let unread: String = missing.map(|(name, _)| format!("{name}: No such file or directory\n")).collect();
+    Done { stderr: unread + &done.stderr, ..done }
 }
 
 fn run(

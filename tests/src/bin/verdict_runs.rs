@@ -47,7 +47,7 @@ fn main() -> ExitCode {
             (_, None) if due.ends_with("11 second 0\n") => "no show".to_string(),
             _ => kind(&due)?,
         };
-        Ok(Run::reading([("first.sheet", sheet), ("show.txt", text)], due, kind))
+        Ok(Run::reading("verdict", [("first.sheet", sheet), ("show.txt", text)], due, kind))
     })
 }
 

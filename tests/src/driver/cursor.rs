@@ -80,7 +80,7 @@ fn any_word(random: &mut Random) -> Vec<u8> {
             let length = random.between(1, 40);
             contents(random, length)
         }
-        6 if random.once_in(100) => contents(random, u8::LONGEST),
+        6 if random.once_in(100) => contents(random, u8::LONG),
         _ => word(random, 256),
     }
 }

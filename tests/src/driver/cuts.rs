@@ -53,7 +53,7 @@ fn any_small(random: &mut Random) -> Vec<u8> {
 
 /// Some letters and then one letter again and again; all letters at random would make long lines.
 fn long(random: &mut Random, letters: usize) -> Vec<u8> {
-    let most = random.pick(&[100, 5000, 70_000, u8::LONGEST]);
+    let most = random.pick(&[100, 5000, 70_000, u8::LONG]);
     let length = random.between(7, most);
     let free = random.below(length.min(200));
     let mut prefix = random.word(free, letters);

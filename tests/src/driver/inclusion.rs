@@ -6,8 +6,9 @@ use crate::driver::random_line::{lent, lent_cells, spelled};
 use crate::driver::random_sheets::{faulty_pair, sheet};
 use crate::emptiness::{first_accepted, nothing};
 use crate::generate;
-use crate::inclusion::{cells_needed, Inclusion, Search};
+use crate::inclusion::{cells_needed, Inclusion, Search, MOST_CELLS};
 use crate::mix::{of_sizes, sheet_pair};
+use crate::plain;
 use crate::random::Random;
 use crate::sheet::{Part, Refusal, Sheet, MOST};
 use crate::standing::Standing;
@@ -16,7 +17,7 @@ pub fn compare(words: &[&[u8]], search: &mut Search) -> Result<String, NoCall> {
     let (work, words) = words.split_last().ok_or(NoCall::Wrong)?;
     let [first, second, mut prefix, mut period] = byte_slices(words)?;
     let mut work = slice::<u64>(work)?;
-    let result = search.compare_within(work.len(), &first, &second, &mut prefix, &mut period);
+    let result = compared(search, work.len(), &first, &second, &mut prefix, &mut period);
     if let Ok(found) = result {
         found.assert_walked([&first, &second], &prefix, &period);
     }
@@ -38,6 +39,23 @@ pub fn emptiness(words: &[&[u8]], search: &mut Search) -> Result<String, NoCall>
     Ok(format!("{answer} | {} {} {}", print(&prefix), print(&period), print(&work)))
 }
 
+/// By the search, or plainly where the sheets need more cells than the search can have.
+pub fn compared(
+    search: &mut Search,
+    cells: usize,
+    first: &[u8],
+    second: &[u8],
+    prefix: &mut [u8],
+    period: &mut [u8],
+) -> Result<Inclusion, Refusal> {
+    match search.compare_within(0, first, second, &mut [], &mut []) {
+        Err(Refusal { number: 22, place, .. }) if place > MOST_CELLS && place <= cells => {
+            plain::compare(first, Some(second), prefix, period)
+        }
+        _ => search.compare_within(cells, first, second, prefix, period),
+    }
+}
+
 fn answer(result: Result<Inclusion, Refusal>, absent: &str, found: &str) -> String {
     match result {
         Ok(Inclusion::Contained { reached }) => format!("{absent} {reached} 0 0 0 0 0 0"),
@@ -50,7 +68,7 @@ fn answer(result: Result<Inclusion, Refusal>, absent: &str, found: &str) -> Stri
 }
 
 /// After an answer, and at 23, the work cells that the search needs are 0. Any other refusal changes none.
-fn clear(work: &mut [u64], result: &Result<Inclusion, Refusal>, first: &[u8], second: &[u8]) {
+pub fn clear(work: &mut [u64], result: &Result<Inclusion, Refusal>, first: &[u8], second: &[u8]) {
     if matches!(result, Ok(_) | Err(Refusal { number: 23, .. })) {
         let sheet = |bytes| Sheet::read(bytes, Part::First).expect("the sheets were in order");
         work[..cells_needed(&sheet(first), &sheet(second))].fill(0);
@@ -96,7 +114,7 @@ fn random_room(
     search: impl FnOnce(usize, &mut [u8], &mut [u8]) -> Result<Inclusion, Refusal>,
 ) -> String {
     // An opening has fewer than N scenes and a loop at most N × K: the cells needed are enough for both.
-    let cells = needed.min(u64::LONGEST);
+    let cells = needed.min(u64::LONG);
     let (prefix, period) = match search(cells, &mut vec![0; cells], &mut vec![0; cells]) {
         Ok(Inclusion::Missing { prefix, period, .. }) => (prefix, period),
         _ => (random.below(3), random.below(3)),
@@ -106,7 +124,7 @@ fn random_room(
     format!("{} {} {}", spelled(random, &prefix), spelled(random, &period), spelled(random, &work))
 }
 
-/// Sheets that need as many cells as a driver takes at least, or some fewer or more.
+/// Sheets that need as many cells as a long slice has, or some fewer or more.
 fn near_the_limit(random: &mut Random) -> (Vec<u8>, Vec<u8>) {
     const SIZES: [[usize; 4]; 6] =
         [[16, 32, 31, 1], [32, 16, 1, 31], [32, 16, 4, 8], [15, 1, 31, 32], [1, 16, 32, 31], [1, 17, 31, 32]];

@@ -7,13 +7,14 @@
 //! - Names and parts are compared byte by byte: `Check` is no call. Only a line whose first byte is `#` is a comment.
 //! - COUNT is a number like any other: `01*5` is no call, `1*5` is one cell. `-` stands alone: `-,5` is no call.
 //! - Lent slices are printed after a refusal as after an answer.
-//! - What is longer than a driver takes at least may be a call for one driver and none for another: it is `Long`, and never sent. But a
-//!   slice of 2^32 cells or more is no call for any driver, and counts are added up without wrapping.
+//! - What is longer than a driver takes at least may be a call for one driver and none for another: it is `Long`, and no line at random.
+//!   But a slice of 2^32 cells or more is no call for any driver, and counts are added up without wrapping.
 
 use std::fmt::{Display, Write};
 
-/// The longest line and, in `Cell`, the longest slices that a driver takes at least.
-pub const LONGEST_LINE: usize = 1_048_576;
+/// The longest line, and the most cells of a slice, that a driver takes at least.
+pub const LONGEST_LINE: usize = 64 << 20;
+pub const LONGEST_SLICE: u64 = 64 << 20;
 /// No driver takes a slice of so many cells.
 const BEYOND_ALL: u64 = 1 << 32;
 
@@ -22,25 +23,25 @@ const BEYOND_ALL: u64 = 1 << 32;
 pub enum NoCall {
     /// It is none of DRIVER.md's lines.
     Wrong,
-    /// It is longer than a driver must take: one driver may take it, another not.
+    /// It is longer than a driver must take, or than memory holds: one driver may take it, another not.
     Long,
 }
 
 pub trait Cell: Copy + PartialEq + Display + TryFrom<u64> {
-    /// The most cells of a slice that a driver takes at least.
-    const LONGEST: usize;
+    /// The cells of a long slice at random.
+    const LONG: usize;
 }
 
 impl Cell for u8 {
-    const LONGEST: usize = 300_000;
+    const LONG: usize = 300_000;
 }
 
 impl Cell for u16 {
-    const LONGEST: usize = 65_536;
+    const LONG: usize = 65_536;
 }
 
 impl Cell for u64 {
-    const LONGEST: usize = 16_384;
+    const LONG: usize = 16_384;
 }
 
 /// A number: decimal, below 2^64, with no needless leading zero.
@@ -54,31 +55,46 @@ pub fn number(word: &[u8]) -> Result<u64, NoCall> {
     digits.parse().map_err(|_| NoCall::Wrong)
 }
 
-/// A slice: `-`, or items with a comma between, each a value or COUNT*VALUE.
+/// A slice that every driver takes: `-`, or items with a comma between, each a value or COUNT*VALUE.
 pub fn slice<T: Cell>(word: &[u8]) -> Result<Vec<T>, NoCall> {
-    if word == b"-" {
-        return Ok(Vec::new());
-    }
-    let mut cells = Vec::new();
+    slice_within(word, LONGEST_SLICE)
+}
+
+/// A slice that one driver takes: as long as memory holds.
+pub fn any_slice<T: Cell>(word: &[u8]) -> Result<Vec<T>, NoCall> {
+    slice_within(word, BEYOND_ALL)
+}
+
+/// What is no slice is found, and how long it is, before any cell is held.
+fn slice_within<T: Cell>(word: &[u8], most: u64) -> Result<Vec<T>, NoCall> {
     let mut length: u64 = 0;
-    for item in word.split(|&byte| byte == b',') {
-        let (count, value) = match item.iter().position(|&byte| byte == b'*') {
-            Some(star) => (number(&item[..star])?, &item[star + 1..]),
-            None => (1, item),
-        };
-        let value = T::try_from(number(value)?).map_err(|_| NoCall::Wrong)?;
+    for item in items::<T>(word) {
+        let (count, _) = item?;
         length = length.saturating_add(count);
         if count == 0 || length >= BEYOND_ALL {
             return Err(NoCall::Wrong);
         }
-        if length <= T::LONGEST as u64 {
-            cells.resize(length as usize, value);
-        }
     }
-    if length > T::LONGEST as u64 {
+    let mut cells = Vec::new();
+    if length > most || cells.try_reserve_exact(length as usize).is_err() {
         return Err(NoCall::Long);
     }
+    for (count, value) in items(word).flatten() {
+        cells.resize(cells.len() + count as usize, value);
+    }
     Ok(cells)
+}
+
+/// Count and value of each item; none of `-`.
+fn items<T: Cell>(word: &[u8]) -> impl Iterator<Item = Result<(u64, T), NoCall>> + '_ {
+    let items = word.split(|&byte| byte == b',').skip((word == b"-") as usize);
+    items.map(|item| {
+        let (count, value) = match item.iter().position(|&byte| byte == b'*') {
+            Some(star) => (number(&item[..star])?, &item[star + 1..]),
+            None => (1, item),
+        };
+        Ok((count, T::try_from(number(value)?).map_err(|_| NoCall::Wrong)?))
+    })
 }
 
 /// The arguments of a call that takes byte slices only.
@@ -143,13 +159,15 @@ mod tests {
         for word in ["18446744073709551615*1,2*1", "9223372036854775808*0,9223372036854775808*0,5", "4294967297*0"] {
             assert_eq!(slice::<u8>(word.as_bytes()), Err(NoCall::Wrong), "{word}");
         }
-        assert_eq!(slice::<u8>(b"300000*7").map(|cells| cells.len()), Ok(300_000));
-        assert_eq!(slice::<u8>(b"300000*7,1"), Err(NoCall::Long));
+        assert_eq!(slice::<u8>(b"67108863*7,1").map(|cells| cells.len()), Ok(67_108_864));
+        assert_eq!(slice::<u8>(b"67108864*7,1"), Err(NoCall::Long));
+        assert_eq!(slice::<u8>(b"67108864*7,1,"), Err(NoCall::Wrong));
+        assert_eq!(any_slice::<u8>(b"67108864*7,1").map(|cells| cells.len()), Ok(67_108_865));
+        assert_eq!(any_slice::<u8>(b"4294967295*0,0"), Err(NoCall::Wrong));
         assert_eq!(slice::<u16>(b"65536*65535").map(|cells| cells.len()), Ok(65_536));
-        assert_eq!(slice::<u16>(b"65537*0"), Err(NoCall::Long));
         assert_eq!(slice::<u16>(b"65536"), Err(NoCall::Wrong));
         assert_eq!(slice::<u64>(b"16384*18446744073709551615").map(|cells| cells.len()), Ok(16_384));
-        assert_eq!(slice::<u64>(b"16385*0"), Err(NoCall::Long));
+        assert_eq!(slice::<u64>(b"67108865*0"), Err(NoCall::Long));
     }
 
     #[test]

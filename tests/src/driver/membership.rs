@@ -40,7 +40,7 @@ pub fn random_verdict(random: &mut Random, _: &mut Search) -> String {
     let mut period = if random.once_in(10) { Vec::new() } else { word(random, letters) };
     for word in [&mut prefix, &mut period] {
         if random.once_in(400) {
-            word.resize(u8::LONGEST, 0);
+            word.resize(u8::LONG, 0);
         }
         if random.once_in(10) {
             put_unknown(random, word, letters);

@@ -1,12 +1,12 @@
-//! The program `driver` held to the independent implementation: one line in, one line out.
+//! The driver held to the independent implementation: one line in, one line out.
 //!
 //! `line` has the words of a line; `calls` the table of calls and what a line prints; `membership`, `boolean`, `inclusion`, `cursor`,
 //! `notation`, `shows`, `pass` and `imports` answer the calls of their subject and make lines for them at random. `random_line` mixes those
 //! with damaged lines and comments, `changes` has every change of one byte of six texts, `long_shows` shows at the programs' bounds,
-//! `imported` automata with verdicts on their sheets, `cuts` prefixes in parts with verdicts on them, `session` sends lines through one run
-//! of the driver, `report` compares what it prints, `coverage` counts the outcomes, and `rows` has the lines that are stored. `stand_in` is
-//! a driver with a fault: `damaged_answer` has those of one field, `wrong_pass` those of a pass, `wrong_level` those of reading and writing
-//! at two levels.
+//! `long_slices` what is longer than a driver takes at least, `imported` automata with verdicts on their sheets, `cuts` prefixes in parts
+//! with verdicts on them, `session` sends lines through one run of the driver, `report` compares what it prints, `coverage` counts the
+//! outcomes, and `rows` has the lines that are stored. `stand_in` is a driver with a fault: `damaged_answer` has those of one field,
+//! `wrong_pass` those of a pass, `wrong_level` those of reading and writing at two levels.
 
 pub mod boolean;
 pub mod calls;
@@ -21,6 +21,7 @@ pub mod imports;
 pub mod inclusion;
 pub mod line;
 pub mod long_shows;
+pub mod long_slices;
 pub mod membership;
 pub mod notation;
 pub mod pass;

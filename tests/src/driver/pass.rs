@@ -56,11 +56,11 @@ pub fn random_pass(random: &mut Random, _: &mut Search) -> String {
     slices.map(|slice| spelled(random, &slice)).collect::<Vec<_>>().join(" ")
 }
 
-/// Mostly short, often empty, now and then as long as a driver takes at least.
+/// Mostly short, often empty, now and then long.
 fn part(random: &mut Random, letters: usize) -> Vec<u8> {
     let mut part = if random.once_in(5) { Vec::new() } else { word(random, letters) };
     if random.once_in(300) {
-        part.resize(u8::LONGEST, random.below(letters) as u8);
+        part.resize(u8::LONG, random.below(letters) as u8);
     }
     part
 }

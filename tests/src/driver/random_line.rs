@@ -7,6 +7,9 @@ use crate::driver::line::{print, Cell, NoCall, LONGEST_LINE};
 use crate::inclusion::Search;
 use crate::random::Random;
 
+/// The bytes of a long comment at random.
+const LONG_COMMENT: usize = (1 << 20) - 2;
+
 /// A line and what is due for it, both without the line feed, and what it is called in a report: the seed that makes it again.
 pub struct Sent {
     pub name: String,
@@ -47,7 +50,7 @@ fn call(random: &mut Random, search: &mut Search) -> Vec<u8> {
 }
 
 fn comment(random: &mut Random) -> Vec<u8> {
-    let length = if random.once_in(200) { LONGEST_LINE - 2 } else { random.below(60) };
+    let length = if random.once_in(200) { LONG_COMMENT } else { random.below(60) };
     let mut line = random.bytes(length);
     line.retain(|&byte| byte != b'\n');
     line.insert(0, b'#');
@@ -56,14 +59,14 @@ fn comment(random: &mut Random) -> Vec<u8> {
 
 /// A lent byte slice with anything in it, about as long as is needed.
 pub fn lent(random: &mut Random, needed: usize) -> Vec<u8> {
-    let length = if random.once_in(500) { u8::LONGEST } else { room_length(random, needed) };
+    let length = if random.once_in(500) { u8::LONG } else { room_length(random, needed) };
     contents(random, length)
 }
 
-/// Lent work cells with anything in them, about as many as are needed but no more than a driver takes at least.
+/// Lent work cells with anything in them, about as many as are needed but no more than a long slice has.
 pub fn lent_cells(random: &mut Random, needed: usize) -> Vec<u64> {
-    let needed = if random.once_in(100) { u64::LONGEST } else { needed };
-    let length = room_length(random, needed).min(u64::LONGEST);
+    let needed = if random.once_in(100) { u64::LONG } else { needed };
+    let length = room_length(random, needed).min(u64::LONG);
     runs(random, length, |random| match random.below(4) {
         0 => random.below(3) as u64,
         1 => u64::MAX - random.below(2) as u64,

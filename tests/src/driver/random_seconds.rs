@@ -53,7 +53,7 @@ pub fn some_seconds(random: &mut Random, letters: usize) -> Vec<u16> {
 
 fn length(random: &mut Random, letters: usize) -> usize {
     if random.once_in(500) {
-        u16::LONGEST
+        u16::LONG
     } else {
         room_length(random, letters)
     }

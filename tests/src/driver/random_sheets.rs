@@ -20,7 +20,7 @@ pub fn in_order(random: &mut Random) -> Draft {
 pub fn sheet(random: &mut Random) -> Vec<u8> {
     match random.below(16) {
         0..=3 => faulty(random),
-        4 if random.once_in(32) => contents(random, u8::LONGEST),
+        4 if random.once_in(32) => contents(random, u8::LONG),
         4 => garbage(random),
         _ => in_order(random).pack(),
     }

@@ -56,7 +56,7 @@ pub fn any_text(random: &mut Random) -> (Vec<u8>, usize) {
         }
     }
     if random.once_in(500) {
-        text.resize(u8::LONGEST, b'0' + random.below(10) as u8);
+        text.resize(u8::LONG, b'0' + random.below(10) as u8);
     }
     (text, random.pick(&places))
 }
@@ -169,7 +169,7 @@ fn with_other_lines(random: &mut Random, text: &[u8]) -> Vec<u8> {
 /// The text cut off somewhere, or going on.
 fn with_other_end(random: &mut Random, mut text: Vec<u8>) -> Vec<u8> {
     match random.below(4) {
-        0 if random.once_in(32) => text.resize(u8::LONGEST.max(text.len()), b'0'),
+        0 if random.once_in(32) => text.resize(u8::LONG.max(text.len()), b'0'),
         0 => text.truncate(text.len() - 1),
         1..=2 => text.truncate(random.below(text.len())),
         _ => text.extend(random.pick(&[&b"\n"[..], b"0", b" ", b"\0", b"0 0 0 0\n", b"level scenes places\n"])),

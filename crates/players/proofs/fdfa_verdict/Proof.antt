@@ -1,17 +1,16 @@
 -- `players::fdfa_verdict` meets its contract. Assumes nothing.
 use mathlib.Core.Path.{ap, _∙_}
-use mathlib.Core.List.{List}
-use Prim.Native.Nat.{ℕ}
-use denote.Ref.{now}
-use Rattle.slices.specs.Filling.{written}
-use Rattle.players.specs.Layout.{layout, verdictNumbers}
-use Rattle.players.proofs.Answering.{told-short, told-long}
+use Rattle.slices.specs.Refusals.{Result}
+use Rattle.fdfa.specs.Acceptance.{Verdict}
+use Rattle.answers.specs.Layout.{numbersOf, padded}
+use Rattle.answers.proofs.Telling.{told-short, told-long}
+use Rattle.players.specs.Calls.{verdictNumbers}
 use borrow.Author.Needs.{needs}
 use Rattle.players.proofs.fdfa_verdict.Statement.{statement}
 use Rattle.players.proofs.fdfa_verdict.Tie as tie
 
 returns : tie.Need-returns
-returns c = told-short 48 _ _ (c .if1 .taken)
+returns c = told-short 6 _ _ (c .if1 .taken)
 
 verdict-requires : tie.Need-verdict-requires
 verdict-requires c κs = search needs
@@ -19,27 +18,22 @@ verdict-requires c κs = search needs
 verdict-numbers-requires : tie.Need-verdict-numbers-requires
 verdict-numbers-requires c κs = search needs
 
-slice-aggregate-put-numbers : tie.Need-slice-aggregate-put-numbers
-slice-aggregate-put-numbers c = search needs
+slice-aggregate-tell : tie.Need-slice-aggregate-tell
+slice-aggregate-tell c = search needs
 
-put-numbers-requires : tie.Need-put-numbers-requires
-put-numbers-requires c κs = search needs
+tell-requires : tie.Need-tell-requires
+tell-requires c κs = search needs
 
 same-length : tie.Need-same-length
 same-length c = search needs
 
 returns-2 : tie.Need-returns-2
 returns-2 c =
-    let e = c .before .before .before .before .before .before .before in
-    let answer = now (e .before .before .before .before .before .args .answer) in
-    told-long
-    48
-    _
-    answer
-    (e .if1 .left)
-    (c .before .before .put-numbers .ensures
-    ∙ ap (λ (ns : List ℕ). written (layout ns) answer) (c .before .before .before .before .before .verdict-numbers .ensures
-    ∙ ap verdictNumbers (c .before .before .before .before .before .before .verdict .ensures)))
+    let t = c .before .before in
+    let n = t .before .before .before in
+    let f = n .before in
+    told-long 6 _ _ (f .before .if1 .left)
+    (n .verdict-numbers .ensures ∙ ap (λ (x : Result Verdict). padded 6 (numbersOf verdictNumbers x)) (f .verdict .ensures)) (t .tell .ensures)
 
 pub fdfa-verdict-spec : {M : Type 1} → statement M
 fdfa-verdict-spec =
@@ -48,7 +42,7 @@ fdfa-verdict-spec =
     returns
     verdict-requires
     verdict-numbers-requires
-    slice-aggregate-put-numbers
-    put-numbers-requires
+    slice-aggregate-tell
+    tell-requires
     same-length
     returns-2)

@@ -2,9 +2,11 @@
 use mathlib.Core.Path.{ap, sym, _∙_}
 use mathlib.Core.List.{[], _∷_}
 use Prim.Native.Nat.{ℕ}
+use Rattle.slices.specs.Tables.{tab}
 use Rattle.membership.specs.declared.Judgement.{Judgement}
 use Rattle.membership.specs.Verdict.{saysOf}
-use Rattle.players.specs.Layout.{verdictNumbers}
+use Rattle.answers.specs.Layout.{numbersOf, padded}
+use Rattle.players.specs.Calls.{verdictNumbers}
 use borrow.Author.Needs.{needs}
 use Rattle.players.proofs.verdict_numbers.Statement.{statement}
 use Rattle.players.proofs.verdict_numbers.Tie as tie
@@ -25,13 +27,16 @@ part-number-requires : tie.Need-part-number-requires
 part-number-requires c κs = search needs
 
 returns : tie.Need-returns
-returns c = ap (λ (j : Judgement). verdictNumbers (saysOf j)) (sym (c .before .judgement .given .1))
+unfolding tab
+returns c =
+    ap (λ (j : Judgement). padded 6 (numbersOf verdictNumbers (saysOf j))) (sym (c .before .judgement .given .1))
 
 returns-2 : tie.Need-returns-2
+unfolding tab
 returns-2 c =
-    let r = c .before .before .before .judgement2 .given .0 .0 in
-    ap (λ (p : ℕ). r .number ∷ p ∷ r .place ∷ 0 ∷ 0 ∷ 0 ∷ []) (c .part-number .ensures)
-    ∙ ap (λ (j : Judgement). verdictNumbers (saysOf j)) (sym (c .before .before .before .judgement2 .given .1))
+    let s = c .before .before .before .judgement2 .given in
+    ap (λ (p : ℕ). s .0 .0 .number ∷ p ∷ s .0 .0 .place ∷ 0 ∷ 0 ∷ 0 ∷ []) (c .part-number .ensures)
+    ∙ ap (λ (j : Judgement). padded 6 (numbersOf verdictNumbers (saysOf j))) (sym (s .1))
 
 pub verdict-numbers-spec : {M : Type 1} → statement M
 verdict-numbers-spec =

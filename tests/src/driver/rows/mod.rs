@@ -6,6 +6,7 @@ mod forms;
 mod import_edits;
 mod import_faults;
 mod imports;
+mod largest;
 mod passes;
 mod refusals;
 mod searches;
@@ -23,6 +24,7 @@ use crate::inclusion::Search;
 use crate::rows::{complemented, A, B, C, D, E, HALL, LEFT, RIGHT};
 
 pub use import_edits::FIVE_PLACES;
+pub use largest::rows as largest_rows;
 pub use shows::TEN_LINES;
 pub use texts::TEXT_OF_B;
 pub use timed_edits::FOUR_OF_B;
@@ -48,6 +50,7 @@ pub fn rows() -> Vec<Row> {
     rows.extend(timed_reading::rows());
     rows.extend(timed_edits::rows());
     rows.extend(timed_writing::rows());
+    rows.extend(largest::rows());
     rows
 }
 

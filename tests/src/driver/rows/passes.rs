@@ -186,7 +186,7 @@ fn place_after(length: usize) -> usize {
     }
 }
 
-/// Eight parts of as many scenes as a driver takes at least; and with an unknown scene.
+/// Eight parts of 300,000 scenes; and with an unknown scene.
 fn long_parts() -> Vec<Row> {
     let parts = |first: &str, seventh: &str, last: &str| {
         format!("pass {SEVEN} {first} 300000*1 300000*1 300000*1 300000*1 300000*1 {seventh} {last}")

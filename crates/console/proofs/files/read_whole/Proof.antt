@@ -14,10 +14,10 @@ counted : (n : ℕ) (b : List ℕ) → n ≤ length b → Counts n b
 counted n b h = (h, sym (length-take-le n b h))
 
 abbrev Inv-loop : tie.InvT-loop
-Inv-loop fd bytes₀ n₀ bytes n = (length bytes ≡ length bytes₀) × (n ≤ length bytes)
+Inv-loop fd name bytes₀ n₀ bytes n = (length bytes ≡ length bytes₀) × (n ≤ length bytes)
 
 abbrev μ-loop : tie.MeasureT-loop
-μ-loop fd bytes₀ n₀ bytes n = length bytes - n
+μ-loop fd name bytes₀ n₀ bytes n = length bytes - n
 
 loop-holds : tie.Need-loop-holds Inv-loop μ-loop
 loop-holds c = search needs
@@ -33,6 +33,9 @@ part-read-end c = search needs
 
 read-requires : tie.Need-read-requires Inv-loop μ-loop
 read-requires c κs = search needs
+
+say-failed-requires : tie.Need-say-failed-requires Inv-loop μ-loop
+say-failed-requires c κs = search needs
 
 same-length : tie.Need-same-length Inv-loop μ-loop
 same-length c = search needs
@@ -84,6 +87,7 @@ read-whole-spec =
     part-read-start
     part-read-end
     read-requires
+    say-failed-requires
     same-length
     returns
     sub-count

@@ -23,35 +23,38 @@ pack-requires c κs = search needs
 enum-known-answer : tie.Need-enum-known-answer
 enum-known-answer c = search needs
 
-print-refusal-requires : tie.Need-print-refusal-requires
-print-refusal-requires c κs = search needs
+slice-aggregate-tell : tie.Need-slice-aggregate-tell
+slice-aggregate-tell c = search needs
+
+tell-requires : tie.Need-tell-requires
+tell-requires c κs = search needs
 
 enum-known-answer-2 : tie.Need-enum-known-answer-2
 enum-known-answer-2 c = search needs
 
 array-share-prefix-sheet : tie.Need-array-share-prefix-sheet
-array-share-prefix-sheet c = within c .0
+array-share-prefix-sheet c = within (c .before) .0
 
-slice-aggregate-save : tie.Need-slice-aggregate-save
-slice-aggregate-save c = sym (length-take-le _ _ (within (c .before) .0))
-
-save-requires : tie.Need-save-requires
-save-requires c κs = search needs
+slice-aggregate-save-three : tie.Need-slice-aggregate-save-three
+slice-aggregate-save-three c = sym (length-take-le _ _ (within (c .before .before) .0))
 
 array-share-prefix-seconds : tie.Need-array-share-prefix-seconds
-array-share-prefix-seconds c = within (c .before .before .before) .1
+array-share-prefix-seconds c = within (c .before .before) .1
 
-slice-aggregate-save-2 : tie.Need-slice-aggregate-save-2
-slice-aggregate-save-2 c = sym (length-take-le _ _ (within (c .before .before .before .before) .1))
+slice-aggregate-save-three-2 : tie.Need-slice-aggregate-save-three-2
+slice-aggregate-save-three-2 c = sym (length-take-le _ _ (within (c .before .before .before) .1))
 
-save-requires-2 : tie.Need-save-requires-2
-save-requires-2 c κs = search needs
+save-three-requires : tie.Need-save-three-requires
+save-three-requires c κs = search needs
 
-slice-aggregate-write-all : tie.Need-slice-aggregate-write-all
-slice-aggregate-write-all c = search needs
+array-share-prefix-sheet-2 : tie.Need-array-share-prefix-sheet-2
+array-share-prefix-sheet-2 c = within (c .before) .0
 
-write-all-requires : tie.Need-write-all-requires
-write-all-requires c κs = search needs
+slice-aggregate-save-alone : tie.Need-slice-aggregate-save-alone
+slice-aggregate-save-alone c = sym (length-take-le _ _ (within (c .before .before) .0))
+
+save-alone-requires : tie.Need-save-alone-requires
+save-alone-requires c κs = search needs
 
 returns : tie.Need-returns
 returns c = search needs
@@ -62,9 +65,6 @@ returns-2 c = search needs
 returns-3 : tie.Need-returns-3
 returns-3 c = search needs
 
-returns-4 : tie.Need-returns-4
-returns-4 c = search needs
-
 pub save-packed-spec : {M : Type 1} → statement M
 save-packed-spec =
     tie.close
@@ -73,17 +73,17 @@ save-packed-spec =
     slice-aggregate-pack-2
     pack-requires
     enum-known-answer
-    print-refusal-requires
+    slice-aggregate-tell
+    tell-requires
     enum-known-answer-2
     array-share-prefix-sheet
-    slice-aggregate-save
-    save-requires
+    slice-aggregate-save-three
     array-share-prefix-seconds
-    slice-aggregate-save-2
-    save-requires-2
-    slice-aggregate-write-all
-    write-all-requires
+    slice-aggregate-save-three-2
+    save-three-requires
+    array-share-prefix-sheet-2
+    slice-aggregate-save-alone
+    save-alone-requires
     returns
     returns-2
-    returns-3
-    returns-4)
+    returns-3)

@@ -9,17 +9,17 @@ use Rattle.conversion.proofs.unpacking.save_filled.Tie as tie
 enum-known-answer : tie.Need-enum-known-answer
 enum-known-answer c = search needs
 
-print-refusal-requires : tie.Need-print-refusal-requires
-print-refusal-requires c κs = search needs
+tell-requires : tie.Need-tell-requires
+tell-requires c κs = search needs
 
 enum-known-answer-2 : tie.Need-enum-known-answer-2
 enum-known-answer-2 c = search needs
 
-slice-aggregate-save : tie.Need-slice-aggregate-save
-slice-aggregate-save c = sym (length-take-le _ _ (c .before .before .before .before .before .before .pre _ (ap writtenSays (c .before .before .answer2 .given .1))))
+slice-aggregate-keep : tie.Need-slice-aggregate-keep
+slice-aggregate-keep c = sym (length-take-le _ _ (c .before .before .before .before .before .before .before .before .before .before .pre _ (ap writtenSays (c .before .before .answer2 .given .1))))
 
-save-requires : tie.Need-save-requires
-save-requires c κs = search needs
+keep-requires : tie.Need-keep-requires
+keep-requires c κs = search needs
 
 returns : tie.Need-returns
 returns c = search needs
@@ -32,9 +32,9 @@ save-filled-spec =
     tie.close
     (tie.spec
     enum-known-answer
-    print-refusal-requires
+    tell-requires
     enum-known-answer-2
-    slice-aggregate-save
-    save-requires
+    slice-aggregate-keep
+    keep-requires
     returns
     returns-2)

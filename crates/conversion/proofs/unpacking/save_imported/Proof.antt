@@ -13,8 +13,14 @@ import-requires c κs = search needs
 slice-aggregate-save-filled : tie.Need-slice-aggregate-save-filled
 slice-aggregate-save-filled c = search needs
 
+slice-aggregate-save-filled-2 : tie.Need-slice-aggregate-save-filled-2
+slice-aggregate-save-filled-2 c = search needs
+
+slice-aggregate-save-filled-3 : tie.Need-slice-aggregate-save-filled-3
+slice-aggregate-save-filled-3 c = search needs
+
 save-filled-requires : tie.Need-save-filled-requires
-save-filled-requires c κs = fills-within (c .before .before .import .ensures)
+save-filled-requires c κs = fills-within (c .before .before .before .before .import .ensures)
 
 returns : tie.Need-returns
 returns c = search needs
@@ -26,5 +32,7 @@ save-imported-spec =
     slice-aggregate-import
     import-requires
     slice-aggregate-save-filled
+    slice-aggregate-save-filled-2
+    slice-aggregate-save-filled-3
     save-filled-requires
     returns)

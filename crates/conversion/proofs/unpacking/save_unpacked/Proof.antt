@@ -16,11 +16,11 @@ use Rattle.conversion.proofs.unpacking.save_unpacked.Tie as tie
 short : {r : Length} (n : ℕ) → r ≡ Good → saysOf r ≡ lengthFault Second n → n ≤ 65536
 short n e h = ltb-false 65536 n (when-sound (ltb 65536 n) 25 Second 65536 (sym h ∙ ap saysOf e))
 
-slice-aggregate-load : tie.Need-slice-aggregate-load
-slice-aggregate-load c = search needs
+slice-aggregate-load-seconds : tie.Need-slice-aggregate-load-seconds
+slice-aggregate-load-seconds c = search needs
 
-load-requires : tie.Need-load-requires
-load-requires c κs = search needs
+load-seconds-requires : tie.Need-load-seconds-requires
+load-seconds-requires c κs = search needs
 
 check-length-requires : tie.Need-check-length-requires
 check-length-requires c κs = search needs
@@ -28,14 +28,20 @@ check-length-requires c κs = search needs
 enum-known-length : tie.Need-enum-known-length
 enum-known-length c = search needs
 
-print-refusal-requires : tie.Need-print-refusal-requires
-print-refusal-requires c κs = search needs
+array-share-prefix-seconds : tie.Need-array-share-prefix-seconds
+array-share-prefix-seconds c = search needs
+
+slice-aggregate-tell : tie.Need-slice-aggregate-tell
+slice-aggregate-tell c = search needs
+
+tell-requires : tie.Need-tell-requires
+tell-requires c κs = search needs
 
 enum-told : tie.Need-enum-told
 enum-told c = search needs
 
-array-share-prefix-seconds : tie.Need-array-share-prefix-seconds
-array-share-prefix-seconds c = search needs
+array-share-prefix-seconds-2 : tie.Need-array-share-prefix-seconds-2
+array-share-prefix-seconds-2 c = search needs
 
 slice-aggregate-save-text : tie.Need-slice-aggregate-save-text
 slice-aggregate-save-text c = search needs
@@ -43,7 +49,7 @@ slice-aggregate-save-text c = search needs
 save-text-requires : tie.Need-save-text-requires
 save-text-requires c κs =
     omega
-    (arith, c .before .before .before .before .before .load .ensures .1, short (c .before .before .before .before .before .load .result) (c .before .enum-told .given .1) (c .before .before .before .check-length .ensures))
+    (arith, c .before .before .before .before .before .load-seconds .ensures .1, short (c .before .before .before .before .before .load-seconds .result) (c .before .enum-told .given .1) (c .before .before .before .check-length .ensures))
 
 returns : tie.Need-returns
 returns c = search needs
@@ -55,13 +61,15 @@ pub save-unpacked-spec : {M : Type 1} → statement M
 save-unpacked-spec =
     tie.close
     (tie.spec
-    slice-aggregate-load
-    load-requires
+    slice-aggregate-load-seconds
+    load-seconds-requires
     check-length-requires
     enum-known-length
-    print-refusal-requires
-    enum-told
     array-share-prefix-seconds
+    slice-aggregate-tell
+    tell-requires
+    enum-told
+    array-share-prefix-seconds-2
     slice-aggregate-save-text
     save-text-requires
     returns

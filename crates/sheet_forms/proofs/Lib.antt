@@ -1,0 +1,4 @@
+pub mod Rooms
+pub mod Answers
+pub mod Laws
+pub mod Taken

@@ -1,0 +1,11 @@
+// A refusal in words, for people: the file and its place by line and column or byte, the number and its sentence.
+mod words; // words.rt: the words of a refusal
+
+pub use words::WORDS;
+pub use words::refusal_words;
+
+// A place of a text: its line and its column, from 1.
+pub struct Position {
+    pub line: usize,
+    pub column: usize,
+}

@@ -1,0 +1,62 @@
+//! What the programs say on standard error: of files that are not there, and of a refusal in words.
+
+/// What `compare` and `verdict` say of their files, by their names and bytes, beside what they print. A show is lines of text.
+pub fn said(program: &str, files: &[(&str, Option<&[u8]>); 2], printed: &str) -> String {
+    let missing = files.iter().filter(|(_, bytes)| bytes.is_none());
+    let mut said: String = missing.map(|(name, _)| format!("{name}: No such file or directory\n")).collect();
+    if let Some(line) = printed.strip_prefix("refused part place\n") {
+        let words: Vec<&str> = line.trim_end().split(' ').collect();
+        let [number, part, place] = words[..] else { panic!("a refusal has three words: {line}") };
+        let (number, place) = (number.parse().expect("a number"), place.parse().expect("a place"));
+        let (name, bytes) = match part {
+            "first" => files[0],
+            "second" => files[1],
+            _ => (program, None),
+        };
+        let place = match part {
+            "first" | "second" if number == 7 => name.to_string(),
+            "first" | "second" if name.ends_with(".txt") => text_place(name, bytes.unwrap_or_default(), place),
+            "first" | "second" => format!("{name}: byte {place}"),
+            _ => name.to_string(),
+        };
+        said += &refused(number, &place);
+    }
+    said
+}
+
+/// A refusal at a place, which names the file.
+pub fn refused(number: usize, place: &str) -> String {
+    format!("{place}: refusal {number}: {}\n", sentence(number))
+}
+
+/// By line and column, both from 1.
+pub fn text_place(name: &str, text: &[u8], place: usize) -> String {
+    let before = &text[..place];
+    let line = before.split(|&byte| byte == b'\n');
+    let column = line.clone().next_back().map_or(0, <[u8]>::len);
+    format!("{name}:{}:{}", line.count(), column + 1)
+}
+
+fn sentence(number: usize) -> &'static str {
+    match number {
+        1 => "the packed sheet is too short or too long",
+        2 => "the number of scenes is not from 1 to 32",
+        3 => "the number of places is not from 1 to 32, or 16 in a drawn automaton",
+        4 => "the number of loop places is not from 1 to 32",
+        5 => "this place is not below the number of places",
+        6 => "this mark is neither 0 nor 1",
+        7 => "the two sheets have different numbers of scenes",
+        8 => "the show has no loop",
+        9 => "this scene is not below the number of scenes",
+        10 => "the level is neither 3 nor 4",
+        11 => "the text departs from its layout here, or ends too early",
+        12 => "another scene, place or loop place is due here",
+        13 => "the automaton has no accepting place",
+        14 => "the seconds are not from 1 to 999",
+        21 => "there is too little room for the result",
+        22 => "the comparison needs more work cells than there are",
+        23 => "the show found is longer than the room for it",
+        25 => "the file has more than 65,536 bytes",
+        _ => panic!("no program is refused by {number} here"),
+    }
+}
