@@ -59,6 +59,11 @@ says() {
     expect "$1" "$2$nl" "${unread:+$unread$nl}${3:-}" "$bin/$program" "${asked[@]}"
 }
 
+# scene PART INDEX: where that scene stands in the show's text
+scene() {
+    echo "$two:$(grep -n "^$1 " "$two" | sed -n "$(($2 + 1))s/:.*//p"):$((${#1} + 2))"
+}
+
 # refuses NAME NUMBER PART PLACE
 refuses() {
     local where
@@ -66,6 +71,7 @@ refuses() {
         second-7) where=$two ;;
         first-*) where=$(spot "$one" "$4") ;;
         second-*) where=$(spot "$two" "$4") ;;
+        opening-9 | loop-9) where=$(scene "$3" "$4") ;;
         *) where=$program ;;
     esac
     says "$1" "$(refusal "$2" "$3" "$4")" "$where: refusal $2: $(sentence "$2")$nl"

@@ -17,6 +17,7 @@ pub fn said(program: &str, files: &[(&str, Option<&[u8]>); 2], printed: &str) ->
             "first" | "second" if number == 7 => name.to_string(),
             "first" | "second" if name.ends_with(".txt") => text_place(name, bytes.unwrap_or_default(), place),
             "first" | "second" => format!("{name}: byte {place}"),
+            "opening" | "loop" if number == 9 => scene_place(files[1].0, files[1].1.unwrap_or_default(), part, place),
             _ => name.to_string(),
         };
         said += &refused(number, &place);
@@ -35,6 +36,14 @@ pub fn text_place(name: &str, text: &[u8], place: usize) -> String {
     let line = before.split(|&byte| byte == b'\n');
     let column = line.clone().next_back().map_or(0, <[u8]>::len);
     format!("{name}:{}:{}", line.count(), column + 1)
+}
+
+/// A scene of a part of a show, in the show's text.
+fn scene_place(name: &str, text: &[u8], part: &str, scene: usize) -> String {
+    let text = std::str::from_utf8(text).expect("a show's text");
+    let start = format!("{part} ");
+    let (line, _) = text.lines().enumerate().filter(|(_, line)| line.starts_with(&start)).nth(scene).expect("the scene");
+    format!("{name}:{}:{}", line + 1, start.len() + 1)
 }
 
 fn sentence(number: usize) -> &'static str {

@@ -17,7 +17,7 @@ use Rattle.inclusion.specs.declared.Outcome.the-variants.{Absent, Found, Refuse
 use Rattle.inclusion.specs.Outcomes.{Answer, numbersOf, isAbsent, answerOf}
 use Rattle.console.specs.Printed.{refusalText}
 use Rattle.wording.specs.Words.{File, refusalWords}
-use Rattle.compare.specs.Decided.{Decides}
+use Rattle.compare_files.specs.Decided.{Decides}
 use Rattle.compare.specs.Text.{contained, missing, verdictBlock, standingBlock, answerText, comparisonText, Lies}
 use Rattle.compare.specs.Said.{containedWords, missingWords, saidOf, outcomeSaid}
 

@@ -1,7 +1,5 @@
 mod Blocks
-mod Decisions
 mod Answers
 mod Spoken
-mod Laws
 mod ReadBack
 mod Example

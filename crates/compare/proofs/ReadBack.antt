@@ -23,9 +23,9 @@ use Rattle.inclusion.specs.Outcomes.{numbersOf, isAbsent}
 use Rattle.inclusion.specs.Calls as calls
 use Rattle.inclusion.specs.Calls.{compareStart}
 use Rattle.inclusion.proofs.Verdicts.{missing-lasso}
-use Rattle.compare.specs.Decided.{room, compared, decided}
+use Rattle.compare_files.specs.Decided.{room, compared, decided}
 use Rattle.compare.specs.Text.{contained, missing, verdictBlock, standingBlock, answerText, programText}
-use Rattle.compare.proofs.Laws.{Were, decided-were}
+use Rattle.compare_files.proofs.Laws.{Were, decided-were}
 
 module _ (any : Bool) (b c : List ℕ) {C : model.Comparison} {u v : List ℕ} (told : decided any b c ≡ given C) (found : C .witness ≡ lasso u v) where
   pub printed : programText any b c ≡ verdictBlock missing (numbersOf C) ++ lassoText u v ++ standingBlock (numbersOf C)

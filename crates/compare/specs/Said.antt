@@ -19,7 +19,7 @@ use Rattle.inclusion.specs.declared.Outcome.the-variants.{Absent, Found, Refuse
 use Rattle.inclusion.specs.Outcomes.{numbersOf, isAbsent}
 use Rattle.sheet_forms.specs.Forms.{formIn, isText}
 use Rattle.wording.specs.Words.{File, refusalWords}
-use Rattle.compare.specs.Decided.{decided}
+use Rattle.compare_files.specs.Decided.{decided}
 
 -- The scenes of a word in a line, or that there are none.
 abbrev pub ending : ℕ → ℕ → ℕ

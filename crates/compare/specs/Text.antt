@@ -14,7 +14,7 @@ use Rattle.inclusion.specs.declared.Comparison.{Comparison}
 use Rattle.inclusion.specs.declared.Outcome.{Outcome}
 use Rattle.inclusion.specs.declared.Outcome.the-variants.{Absent, Found, Refused}
 use Rattle.inclusion.specs.Outcomes.{numbersOf, isAbsent}
-use Rattle.compare.specs.Decided.{decided}
+use Rattle.compare_files.specs.Decided.{decided}
 
 -- "verdict reached opening loop" and a line feed
 abbrev pub verdictTitle : List ℕ

@@ -1,7 +1,7 @@
 // What the program prints, and what it says on standard error.
-use crate::comparing::decide;
 use crate::saying::put_decided;
 use crate::text::comparison_text;
+use compare_files::decide;
 use inclusion::Outcome;
 use sheet_forms::form_in;
 use sheet_forms::is_text;

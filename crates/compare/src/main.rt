@@ -6,7 +6,6 @@ ghost use Prim.Native.Nat.{_≤_};
 ghost use lib.ListN.{length};
 
 mod answering; // answering.rt: what is printed and said for two files
-mod comparing; // comparing.rt: the comparison with the room that the program has
 mod saying; // saying.rt: what is said on standard error
 mod text; // text.rt: what is printed, block by block
 

@@ -1,5 +1,3 @@
 mod Blocks
-mod Files
-mod Decisions
 mod Spoken
 mod Example

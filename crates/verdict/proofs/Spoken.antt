@@ -17,8 +17,9 @@ use Rattle.membership.specs.declared.Judgement.{Judgement}
 use Rattle.membership.specs.declared.Judgement.the-variants as judgement
 use Rattle.membership.specs.Verdict.{saysOf}
 use Rattle.console.specs.Printed.{Shows}
-use Rattle.wording.specs.Words.{File, refusalWords}
+use Rattle.wording.specs.Words.{File, showWords}
 use Rattle.console.proofs.Printed.{field-few, shows-as, stored-shows}
+use Rattle.verdict_files.specs.Judged.{openings}
 use Rattle.verdict.specs.Said.{startWords, markWords, waitWords, endWords, verdictWords, saidOf}
 
 pub start-stored : {old new : List ℕ} {r : ℕ} {accepted : Bool} (x : Bool) → accepted ≡ x → length (startWords x) ≤ 40 → Stored old 0 (startWords x) new r → Stored old 0 (startWords accepted) new r × (r ≤ 40)
@@ -66,7 +67,8 @@ module _ (explain : Bool) (answer : Judgement) (one two : File) {old new : List 
       → Shows (cond explain (verdictWords (one .name) (record { accepted = accepted; i = i; j = j; state = state; end = end })) []) old new n → Shows (saidOf explain one two (saysOf answer)) old new n
   said-given e s = shows-as (ap (λ (x : Judgement). saidOf explain one two (saysOf x)) (sym e)) s
 
-  pub said-refused : {q : Refusal} {x : Bool} → answer ≡ judgement.Refused q → x ≡ one .lined
-      → Shows (refusalWords (bytes "verdict") (record { name = one .name; held = one .held; lined = x }) two q) old new n → Shows (saidOf explain one two (saysOf answer)) old new n
-  said-refused {q} e d s =
-      shows-as ((λ i. refusalWords (bytes "verdict") (record { name = one .name; held = one .held; lined = d i }) two q) ∙ ap (λ (x : Judgement). saidOf explain one two (saysOf x)) (sym e)) s
+  pub said-refused : {q : Refusal} {x : Bool} {m : ℕ} → answer ≡ judgement.Refused q → x ≡ one .lined → m ≡ openings (two .held)
+      → Shows (showWords (bytes "verdict") (record { name = one .name; held = one .held; lined = x }) two m q) old new n → Shows (saidOf explain one two (saysOf answer)) old new n
+  said-refused {q} e d f s =
+      shows-as
+      ((λ i. showWords (bytes "verdict") (record { name = one .name; held = one .held; lined = d i }) two (f i) q) ∙ ap (λ (x : Judgement). saidOf explain one two (saysOf x)) (sym e)) s

@@ -9,8 +9,8 @@ use Rattle.slices.specs.Texts.{bytes}
 use Rattle.fdfa.specs.Acceptance.{Verdict}
 use Rattle.numbers.specs.Digits.{field}
 use Rattle.sheet_forms.specs.Forms.{formIn, isText}
-use Rattle.wording.specs.Words.{File, refusalWords}
-use Rattle.verdict.specs.Judged.{judged}
+use Rattle.wording.specs.Words.{File, showWords}
+use Rattle.verdict_files.specs.Judged.{openings, judged}
 
 abbrev pub startWords : Bool → List ℕ
 startWords true = bytes "accepted: after the opening and "
@@ -37,7 +37,7 @@ verdictWords name x = waitWords name (x .accepted) (x .i) (x .state) ++ endWords
 
 abbrev pub saidOf : Bool → File → File → Result Verdict → List ℕ
 saidOf explain one two (given x) = cond explain (verdictWords (one .name) x) []
-saidOf explain one two (refused r) = refusalWords (bytes "verdict") one two r
+saidOf explain one two (refused r) = showWords (bytes "verdict") one two (openings (two .held)) r
 
 -- The sheet's file, which has lines or not by its form, and the show's, which is text.
 abbrev pub sheetFile : Bool → List ℕ → List ℕ → File

@@ -6,7 +6,7 @@ use Rattle.slices.specs.Refusals.{Result, given, refused}
 use Rattle.fdfa.specs.Acceptance.{Verdict}
 use Rattle.numbers.specs.Digits.{field}
 use Rattle.console.specs.Printed.{refusalText}
-use Rattle.verdict.specs.Judged.{judged}
+use Rattle.verdict_files.specs.Judged.{judged}
 
 -- "verdict i j place end" and a line feed
 abbrev pub title : List ℕ

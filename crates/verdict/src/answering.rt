@@ -1,11 +1,12 @@
 // What the program prints, and what it says on standard error.
-use crate::judging::judge_files;
 use crate::saying::put_judged;
 use crate::text::verdict_text;
 use membership::Judgement;
 use sheet_forms::form_in;
 use sheet_forms::is_text;
-use wording::refusal_words;
+use verdict_files::count_openings;
+use verdict_files::judge_files;
+use wording::show_words;
 ghost use Prim.Native.Nat.{_≤_};
 ghost use lib.ListN.{length};
 ghost use Rattle.membership.specs.Verdict.{saysOf};
@@ -48,7 +49,8 @@ fn put_message(
         } => put_judged(explain, one, accepted, i, j, state, end, out),
         Judgement::Refused(r) => {
             let lined = is_text(form_in(any, sheet));
-            refusal_words(b"verdict", one, sheet, lined, two, show, true, r, out)
+            let openings = count_openings(show);
+            show_words(b"verdict", one, sheet, lined, two, show, openings, r, out)
         }
     }
 }

@@ -5,7 +5,6 @@ ghost use Prim.Native.Nat.{_≤_};
 ghost use lib.ListN.{length};
 
 mod answering; // answering.rt: what is printed and said for two files
-mod judging; // judging.rt: the verdict on a show that is given as text
 mod saying; // saying.rt: why, in words
 mod text; // text.rt: what is printed
 

@@ -1,3 +1,4 @@
 pub mod Sentences
 pub mod Places
 pub mod Worded
+pub mod SceneLines

@@ -1,5 +1,5 @@
 -- A refusal in words, for people: where it is, its number, and the sentence of that number. Assumes nothing.
-use mathlib.Core.Bool.{Bool, cond, not, _||_}
+use mathlib.Core.Bool.{Bool, cond, not, _&&_, _||_}
 use mathlib.Core.List.{List, [], _∷_, _++_}
 use Prim.Native.Nat.{ℕ, zero, suc, _+_}
 use Prim.Native.Char.{code}
@@ -104,3 +104,29 @@ reason n = bytes " refusal " ++ field n (code ":") ++ bytes " " ++ sentence n ++
 
 unfoldable pub refusalWords : List ℕ → File → File → Refusal → List ℕ
 refusalWords program one two r = culprit program one two r ++ reason (r .number)
+
+-- Which part of a show a refusal speaks of: the opening, the loop, or none.
+abbrev pub showPart : Part → ℕ
+showPart First = 0
+showPart Second = 0
+showPart Opening = 1
+showPart Loop = 2
+showPart Out = 0
+showPart Work = 0
+showPart Cursor = 0
+showPart Seconds = 0
+
+-- A scene that the sheet has not, of a part of at most 4,096 scenes.
+abbrev pub isScene : Refusal → Bool
+isScene r = eqb (r .number) 9 && (ltb 0 (showPart (r .part)) && ltb (r .place) 4096)
+
+-- Where it stands in the show's text: in a line of its own behind the line of names, the m opening lines first.
+abbrev pub scenePosition : ℕ → Refusal → Position
+scenePosition m r =
+    cond (eqb (showPart (r .part)) 1) (record { line = r .place + 2; column = length (bytes "opening ") + 1 })
+    (record { line = m + r .place + 2; column = length (bytes "loop ") + 1 })
+
+-- For a program whose second file is a show's text with m opening lines.
+unfoldable pub showWords : List ℕ → File → File → ℕ → Refusal → List ℕ
+showWords program one two m r =
+    cond (isScene r) (two .name ++ linePlace (scenePosition m r) ++ reason (r .number)) (refusalWords program one two r)

@@ -145,7 +145,7 @@ fn put_sentence(number: u8, out: &mut [u8], at: usize) -> usize
 }
 
 // A number and its sentence, to the end of the line.
-fn put_reason(number: u8, out: &mut [u8], at: usize) -> usize
+pub fn put_reason(number: u8, out: &mut [u8], at: usize) -> usize
     requires { ⌜ at ≤ 8192 ⌝ }
     ensures { λ r. ⌜ Stored (now (out .entry)) at (reason number) (now (out .exit)) r × (r ≤ at + 112) ⌝ }
 {
@@ -157,7 +157,7 @@ fn put_reason(number: u8, out: &mut [u8], at: usize) -> usize
 }
 
 // A place of a text.
-fn put_line(q: Position, out: &mut [u8], at: usize) -> usize
+pub fn put_line(q: Position, out: &mut [u8], at: usize) -> usize
     requires { ⌜ at ≤ 4096 ⌝ }
     ensures { λ r. ⌜ Stored (now (out .entry)) at (linePlace q) (now (out .exit)) r × (r ≤ at + 43) ⌝ }
 {

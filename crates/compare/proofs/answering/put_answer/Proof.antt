@@ -2,7 +2,7 @@
 use native.Mathlib.Omega.{arith}
 use denote.Ref.{now}
 use Rattle.console.proofs.Printed.{shows-as}
-use Rattle.compare.specs.Decided.{decided}
+use Rattle.compare_files.specs.Decided.{decided}
 use Rattle.compare.specs.Said.{fileIn}
 use Rattle.compare.proofs.Answers.{lies, printed-is, said-is}
 use borrow.Author.Needs.{needs}

@@ -26,11 +26,14 @@ form-in-requires c κs = search needs
 is-text-requires : tie.Need-is-text-requires
 is-text-requires c κs = search needs
 
-slice-aggregate-refusal-words : tie.Need-slice-aggregate-refusal-words
-slice-aggregate-refusal-words c = search needs
+count-openings-requires : tie.Need-count-openings-requires
+count-openings-requires c κs = search needs
 
-refusal-words-requires : tie.Need-refusal-words-requires
-refusal-words-requires c κs = search needs
+slice-aggregate-show-words : tie.Need-slice-aggregate-show-words
+slice-aggregate-show-words c = search needs
+
+show-words-requires : tie.Need-show-words-requires
+show-words-requires c κs = search needs
 
 same-length : tie.Need-same-length
 same-length c = search needs
@@ -48,11 +51,12 @@ same-length-2 c = search needs
 returns-2 : tie.Need-returns-2
 returns-2 c =
     let w = c .before .before in
-    let x = w .before .before .before in
+    let o = w .before .before .before in
+    let x = o .before in
     let f = x .before in
     let a = f .before .before in
     let s = start (a .before .before) in
-    said-refused (s .args .explain) (s .args .answer) (sheetFile (s .args .any) (now (s .args .one)) (now (s .args .sheet))) (showFile (now (s .args .two)) (now (s .args .show))) (a .answer2 .given .1) (x .is-text .ensures ∙ ap isText (f .form-in .ensures)) (w .refusal-words .ensures)
+    said-refused (s .args .explain) (s .args .answer) (sheetFile (s .args .any) (now (s .args .one)) (now (s .args .sheet))) (showFile (now (s .args .two)) (now (s .args .show))) (a .answer2 .given .1) (x .is-text .ensures ∙ ap isText (f .form-in .ensures)) (o .count-openings .ensures .0) (w .show-words .ensures)
 
 pub put-message-spec : {M : Type 1} → statement M
 put-message-spec =
@@ -63,8 +67,9 @@ put-message-spec =
     enum-known-answer-2
     form-in-requires
     is-text-requires
-    slice-aggregate-refusal-words
-    refusal-words-requires
+    count-openings-requires
+    slice-aggregate-show-words
+    show-words-requires
     same-length
     returns
     same-length-2

@@ -1,0 +1,2 @@
+mod Decisions
+pub mod Laws

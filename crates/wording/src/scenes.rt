@@ -1,0 +1,100 @@
+// A refusal in words where the second file is a show's text: a scene that the sheet has not is named by its line there.
+use crate::Position;
+use crate::words::put_line;
+use crate::words::put_reason;
+use crate::words::refusal_words;
+use format::put_literal;
+use slices::Part;
+use slices::Refusal;
+ghost use mathlib.Core.Path.{_≡_};
+ghost use mathlib.Core.Bool.{true};
+ghost use mathlib.Core.List.{_++_};
+ghost use Prim.Native.Nat.{_+_, _≤_, _<_};
+ghost use lib.ListN.{length};
+ghost use Rattle.numbers.specs.Storing.{Stored};
+ghost use Rattle.console.specs.Printed.{Shows};
+ghost use Rattle.wording.specs.Words.{linePlace, showPart, isScene, scenePosition, showWords};
+
+// Which part of a show it is: the opening, the loop, or none.
+fn show_part(part: Part) -> u8
+    ensures { λ r. ⌜ r ≡ showPart part ⌝ }
+{
+    match part {
+        Part::First => 0,
+        Part::Second => 0,
+        Part::Opening => 1,
+        Part::Loop => 2,
+        Part::Out => 0,
+        Part::Work => 0,
+        Part::Cursor => 0,
+        Part::Seconds => 0,
+    }
+}
+
+// Whether a refusal is of a scene.
+fn is_scene(r: Refusal) -> bool
+    ensures { λ b. ⌜ b ≡ isScene r ⌝ }
+{
+    if r.number != 9 {
+        return false;
+    }
+    let part = r.part;
+    if show_part(part) == 0 {
+        return false;
+    }
+    r.place < 4096
+}
+
+// Where it stands.
+fn scene_position(openings: usize, r: Refusal) -> Position
+    requires { ⌜ (openings ≤ 4096) × (isScene r ≡ true) ⌝ }
+    ensures { λ q. ⌜ q ≡ scenePosition openings r ⌝ }
+{
+    let part = r.part;
+    if show_part(part) == 1 {
+        return Position {
+            line: r.place + 2,
+            column: 9,
+        };
+    }
+    Position {
+        line: openings + r.place + 2,
+        column: 6,
+    }
+}
+
+// The name of the show's file and the line.
+fn put_scene(name: &[u8], q: Position, out: &mut [u8]) -> usize
+    requires { ⌜ length (now name) ≤ 4096 ⌝ }
+    ensures { λ n. ⌜ Stored (now (out .entry)) 0 (now (name .entry) ++ linePlace q) (now (out .exit)) n ×
+        (n ≤ 4139) ⌝ }
+{
+    let named = put_literal(name, out, 0);
+    put_line(q, out, named)
+}
+
+// A refusal in words, for a program that was given a file and a show's text with so many opening lines.
+pub fn show_words(
+    program: &[u8],
+    one: &[u8],
+    first: &[u8],
+    lined: bool,
+    two: &[u8],
+    show: &[u8],
+    openings: usize,
+    r: Refusal,
+    out: &mut [u8],
+) -> usize
+    requires { ⌜ (length (now program) ≤ 4096) × (length (now one) ≤ 4096) × (length (now two) ≤ 4096) ×
+        (openings ≤ 4096) × (4352 ≤ length (now out)) ⌝ }
+    ensures { λ n. ⌜ Shows
+        (showWords (now (program .entry)) (record { name = now (one .entry); held = now (first .entry); lined = lined }) (record { name = now (two .entry); held = now (show .entry); lined = true }) openings r)
+        (now (out .entry)) (now (out .exit)) n ⌝ }
+{
+    if is_scene(r) {
+        let q = scene_position(openings, r);
+        let at = put_scene(two, q, out);
+        return put_reason(r.number, out, at);
+    }
+    refusal_words(program, one, first, lined, two, show, true, r, out)
+}
