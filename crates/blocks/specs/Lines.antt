@@ -1,13 +1,14 @@
 -- The text of a family, line by line; `text-lines` says that this is its text. Assumes nothing.
-use mathlib.Core.List.{List, [], _∷_, _++_}
+use mathlib.Core.List.{List, _++_}
 use Prim.Native.Nat.{ℕ}
 use Rattle.fdfa.specs.Family.{Fdfa}
 use Rattle.slices.specs.Tables.{rows}
+use Rattle.slices.specs.Texts.{bytes}
 use Rattle.format.specs.Rows.{line}
 use Rattle.blocks.specs.Text.{names, countsTitle, secondsTitle, timed, leadingTitle, progressTitle, countsOf, secondsValues, leadingValues, progressValues}
 
 abbrev pub headText : List ℕ → ℕ → List ℕ
-headText title s = (title ++ names s) ++ (10 ∷ [])
+headText title s = (title ++ names s) ++ bytes "\n"
 
 abbrev pub countsText : ℕ → Fdfa → List ℕ
 countsText level F = countsTitle ++ line (countsOf level F)

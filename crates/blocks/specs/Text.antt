@@ -7,6 +7,7 @@ use lib.Dec.{eqb}
 use lib.ListN.{getD}
 use Rattle.fdfa.specs.Family.{Fdfa}
 use Rattle.slices.specs.Tables.{tab, rows}
+use Rattle.slices.specs.Texts.{bytes}
 use Rattle.packed.specs.Layout.{decode, mark}
 use Rattle.numbers.specs.Digits.{digitsOf}
 use Rattle.format.specs.declared.Column.{Column}
@@ -16,24 +17,24 @@ use Rattle.format.specs.Rows.{row, due, below}
 
 -- The names of s letters, each after a space: s0, s1, ..
 abbrev pub names : ℕ → List ℕ
-names s = rows s (λ a. 32 ∷ 115 ∷ digitsOf a)
+names s = rows s (λ a. bytes " s" ++ digitsOf a)
 
--- "level scenes places" and a line feed; "scene seconds" and a line feed; "place loops"; "place loop mark"
+-- The titles of the blocks; two of them go on with the names of the letters.
 abbrev pub countsTitle : List ℕ
-countsTitle = 108 ∷ 101 ∷ 118 ∷ 101 ∷ 108 ∷ 32 ∷ 115 ∷ 99 ∷ 101 ∷ 110 ∷ 101 ∷ 115 ∷ 32 ∷ 112 ∷ 108 ∷ 97 ∷ 99 ∷ 101 ∷ 115 ∷ 10 ∷ []
+countsTitle = bytes "level scenes places\n"
 
 abbrev pub timesTitle : List ℕ
-timesTitle = 115 ∷ 99 ∷ 101 ∷ 110 ∷ 101 ∷ 32 ∷ 115 ∷ 101 ∷ 99 ∷ 111 ∷ 110 ∷ 100 ∷ 115 ∷ 10 ∷ []
+timesTitle = bytes "scene seconds\n"
 
 abbrev pub leadingTitle : List ℕ
-leadingTitle = 112 ∷ 108 ∷ 97 ∷ 99 ∷ 101 ∷ 32 ∷ 108 ∷ 111 ∷ 111 ∷ 112 ∷ 115 ∷ []
+leadingTitle = bytes "place loops"
 
 abbrev pub progressTitle : List ℕ
-progressTitle = 112 ∷ 108 ∷ 97 ∷ 99 ∷ 101 ∷ 32 ∷ 108 ∷ 111 ∷ 111 ∷ 112 ∷ 32 ∷ 109 ∷ 97 ∷ 114 ∷ 107 ∷ []
+progressTitle = bytes "place loop mark"
 
 -- A line of names: a title, the names of the letters, a line feed.
 abbrev pub head : List ℕ → ℕ → Format
-head title s = seq (seq (literal title) (λ vs. literal (names s))) (λ vs. literal (10 ∷ []))
+head title s = seq (seq (literal title) (λ vs. literal (names s))) (λ vs. literal (bytes "\n"))
 
 -- A count from 1 to 32.
 abbrev pub counted : ℕ → Column

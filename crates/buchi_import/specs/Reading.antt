@@ -4,10 +4,12 @@
 use mathlib.Core.Bool.{Bool, false, cond, not, _||_, _&&_}
 use mathlib.Core.List.{List, [], _∷_}
 use Prim.Native.Nat.{ℕ, _+_, _*_, _-_, _/_, _%_}
+use Prim.Native.Char.{code}
 use lib.Dec.{eqb, ltb}
 use lib.ListN.{length, getD}
 use Rattle.slices.specs.declared.Part.the-variants.{First, Out}
 use Rattle.slices.specs.Refusals.{Fault, _then_, when, Result, given, refused, faultIn}
+use Rattle.slices.specs.Texts.{bytes}
 use Rattle.fdfa.specs.Buchi.{Dba, fromBuchi}
 use Rattle.fdfa.specs.Inclusion.{countBelow}
 use Rattle.packed.specs.Layout.{pack}
@@ -31,13 +33,13 @@ dueState m c a = cond (eqb c m) (cond (eqb a m) 0 1) (m / c)
 
 -- One transition, such as "s1,[0]->[2]": its letter, its state, and its target, which is below a limit.
 abbrev pub target : ℕ → Format
-target limit = seq (labelled (45 ∷ 62 ∷ 91 ∷ []) (λ r. below limit 5) 93) (λ vs. literal (10 ∷ []))
+target limit = seq (labelled (bytes "->[") (λ r. below limit 5) (code "]")) (λ vs. literal (bytes "\n"))
 
 abbrev pub fromState : ℕ → ℕ → ℕ → ℕ → Format
-fromState limit m c a = seq (labelled (91 ∷ []) (turn 16 3 (dueState m c a)) 93) (λ vs. target limit)
+fromState limit m c a = seq (labelled (bytes "[") (turn 16 3 (dueState m c a)) (code "]")) (λ vs. target limit)
 
 unfoldable pub transition : ℕ → ℕ → ℕ → Format
-transition limit m c = seq (labelled (115 ∷ []) (λ a. turn 32 2 (dueLetter m c a) a) 44) (λ vs. fromState limit m c (getD vs 0 0))
+transition limit m c = seq (labelled (bytes "s") (λ a. turn 32 2 (dueLetter m c a) a) (code ",")) (λ vs. fromState limit m c (getD vs 0 0))
 
 -- Of m transitions with the numbers vs, three each, those of state 0.
 abbrev pub ofStart : ℕ → List ℕ → ℕ
@@ -51,7 +53,7 @@ abbrev pub rising : ℕ → ℕ → ℕ → Column
 rising low limit v = record { low = low; limit = limit; number = cond (ltb v low) 12 5 }
 
 unfoldable pub acceptingState : ℕ → ℕ → Format
-acceptingState limit low = seq (labelled (91 ∷ []) (rising low limit) 93) (λ vs. literal (10 ∷ []))
+acceptingState limit low = seq (labelled (bytes "[") (rising low limit) (code "]")) (λ vs. literal (bytes "\n"))
 
 -- The smallest state that may come after i accepting ones.
 abbrev pub afterLast : ℕ → List ℕ → ℕ
@@ -86,12 +88,12 @@ whole moves = not (eqb (moveCount moves) 0) && eqb (moveCount moves % lettersIn 
 abbrev pub moved : ℕ → List ℕ → Result Found → Result Numbers
 moved limit t (refused r) = refused r
 moved limit t (given w) =
-    cond (whole (w .values)) (ended t (w .values) (repeated First t 91 (acceptingStates limit) (w .next))) (refusedAt 11 First (w .next))
+    cond (whole (w .values)) (ended t (w .values) (repeated First t (code "[") (acceptingStates limit) (w .next))) (refusedAt 11 First (w .next))
 
 -- After the line of the start, the transitions.
 abbrev pub started : ℕ → List ℕ → Result Found → Result Numbers
 started limit t (refused r) = refused r
-started limit t (given w) = moved limit t (repeated First t 115 (transitions limit) (w .next))
+started limit t (given w) = moved limit t (repeated First t (code "s") (transitions limit) (w .next))
 
 -- The whole text, with a limit on the states that transitions lead to and on accepting ones.
 unfoldable pub numbersBelow : ℕ → List ℕ → Result Numbers

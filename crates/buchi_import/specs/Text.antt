@@ -2,23 +2,25 @@
 -- each accepting state, rising. Assumes nothing.
 use mathlib.Core.Path.{_≡_}
 use mathlib.Core.Bool.{true, cond}
-use mathlib.Core.List.{List, [], _∷_, _++_}
+use mathlib.Core.List.{List, [], _++_}
 use Prim.Native.Nat.{ℕ, _≤_, _<_}
+use Prim.Native.Char.{code}
 use Rattle.slices.specs.Tables.{rows}
+use Rattle.slices.specs.Texts.{bytes}
 use Rattle.fdfa.specs.Buchi.{Dba, CompleteDba}
 use Rattle.numbers.specs.Digits.{field}
 
--- "[0]" and a line feed
+-- The line of the start.
 abbrev pub startLine : List ℕ
-startLine = 91 ∷ 48 ∷ 93 ∷ 10 ∷ []
+startLine = bytes "[0]\n"
 
--- By the letter a state q leads to r: "s1,[0]->[2]" and a line feed.
+-- By the letter a state q leads to r.
 abbrev pub transitionLine : ℕ → ℕ → ℕ → List ℕ
-transitionLine a q r = (115 ∷ field a 44) ++ (91 ∷ field q 93) ++ (45 ∷ 62 ∷ 91 ∷ field r 93) ++ (10 ∷ [])
+transitionLine a q r = (bytes "s" ++ field a (code ",")) ++ (bytes "[" ++ field q (code "]")) ++ (bytes "->[" ++ field r (code "]")) ++ bytes "\n"
 
--- "[2]" and a line feed
+-- An accepting state.
 abbrev pub acceptingLine : ℕ → List ℕ
-acceptingLine p = (91 ∷ field p 93) ++ (10 ∷ [])
+acceptingLine p = (bytes "[" ++ field p (code "]")) ++ bytes "\n"
 
 unfoldable pub buchiText : Dba → List ℕ
 buchiText D =

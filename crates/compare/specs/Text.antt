@@ -1,9 +1,11 @@
 -- What the comparison prints for each answer (01, and the last block 02), block by block. Assumes nothing.
 use mathlib.Core.Bool.{Bool, cond}
-use mathlib.Core.List.{List, [], _∷_, _++_}
+use mathlib.Core.List.{List, _++_}
 use Prim.Native.Nat.{ℕ, _≤_}
+use Prim.Native.Char.{code}
 use lib.ListN.{take}
 use Rattle.slices.specs.Refusals.{Result, given, refused}
+use Rattle.slices.specs.Texts.{bytes}
 use Rattle.fdfa.specs.Inclusion as model
 use Rattle.numbers.specs.Digits.{field}
 use Rattle.lasso_text.specs.Text.{lassoText}
@@ -16,28 +18,27 @@ use Rattle.inclusion.specs.declared.Outcome.the-variants.{Absent, Found, Refuse
 use Rattle.inclusion.specs.Outcomes.{numbersOf, isAbsent}
 use Rattle.compare_files.specs.Decided.{decided}
 
--- "verdict reached opening loop" and a line feed
 abbrev pub verdictTitle : List ℕ
-verdictTitle = 118 ∷ 101 ∷ 114 ∷ 100 ∷ 105 ∷ 99 ∷ 116 ∷ 32 ∷ 114 ∷ 101 ∷ 97 ∷ 99 ∷ 104 ∷ 101 ∷ 100 ∷ 32 ∷ 111 ∷ 112 ∷ 101 ∷ 110 ∷ 105 ∷ 110 ∷ 103 ∷ 32 ∷ 108 ∷ 111 ∷ 111 ∷ 112 ∷ 10 ∷ []
+verdictTitle = bytes "verdict reached opening loop\n"
 
--- "contained" and a space; "missing" and a space
 abbrev pub contained : List ℕ
-contained = 99 ∷ 111 ∷ 110 ∷ 116 ∷ 97 ∷ 105 ∷ 110 ∷ 101 ∷ 100 ∷ 32 ∷ []
+contained = bytes "contained "
 
 abbrev pub missing : List ℕ
-missing = 109 ∷ 105 ∷ 115 ∷ 115 ∷ 105 ∷ 110 ∷ 103 ∷ 32 ∷ []
+missing = bytes "missing "
 
 -- The first block: the line of names, then the verdict, R and the two lengths.
 abbrev pub verdictBlock : List ℕ → Comparison → List ℕ
-verdictBlock verdict z = verdictTitle ++ verdict ++ field (z .reached) 32 ++ field (z .prefix) 32 ++ field (z .period) 10
+verdictBlock verdict z =
+    verdictTitle ++ verdict ++ field (z .reached) (code " ") ++ field (z .prefix) (code " ")
+    ++ field (z .period) (code "\n")
 
--- "waits ends" and a line feed
 abbrev pub standingTitle : List ℕ
-standingTitle = 119 ∷ 97 ∷ 105 ∷ 116 ∷ 115 ∷ 32 ∷ 101 ∷ 110 ∷ 100 ∷ 115 ∷ 10 ∷ []
+standingTitle = bytes "waits ends\n"
 
 -- The line of a sheet: where it waits, and where it ends.
 abbrev pub standingLine : Standing → List ℕ
-standingLine x = field (x .waits) 32 ++ field (x .ends) 10
+standingLine x = field (x .waits) (code " ") ++ field (x .ends) (code "\n")
 
 -- The last block: the line of names, then a line for the first sheet and one for the second.
 abbrev pub standingBlock : Comparison → List ℕ

@@ -5,6 +5,7 @@ use mathlib.Core.Path.{_≡_}
 use mathlib.Core.Bool.{Bool, true, cond, _&&_}
 use mathlib.Core.List.{List, [], _∷_, _++_}
 use Prim.Native.Nat.{ℕ, zero, suc, _+_, _≤_, _<_}
+use Prim.Native.Char.{code}
 use lib.Dec.{eqb, ltb}
 use lib.ListN.{length, getD}
 use Rattle.slices.specs.declared.Part.{Part}
@@ -62,7 +63,7 @@ pub record Takes (c : Column) (end v : ℕ) : Type 0 where
   pub low : c .low ≤ v
   pub high : v < c .limit
   pub small : v < 1000
-  pub ends : outside 48 58 end ≡ true
+  pub ends : outside (code "0") (code "9" + 1) end ≡ true
 
 -- The numbers are those of a text of the format.
 unfoldable pub Fits : Format → List ℕ → Type 0

@@ -3,6 +3,7 @@ use mathlib.Core.Path.{_≡_}
 use mathlib.Core.Bool.{Bool, true, cond, not}
 use mathlib.Core.List.{List}
 use Prim.Native.Nat.{ℕ, _+_}
+use Prim.Native.Char.{code}
 use lib.Dec.{eqb}
 use lib.ListN.{length, getD}
 use Rattle.slices.specs.declared.Part.{Part}
@@ -34,7 +35,7 @@ repeated part t c g at = reading part t (g (repeats part t c g at)) at
 
 -- Lines of a word and a number.
 abbrev pub lines : List ℕ → Column → ℕ → Format
-lines word c m = each m (λ i. labelled word (λ v. c) 10)
+lines word c m = each m (λ i. labelled word (λ v. c) (code "\n"))
 
 abbrev pub linesAt : Part → List ℕ → List ℕ → Column → ℕ → Result Found
 linesAt part t word c at = repeated part t (getD word 0 0) (lines word c) at

@@ -2,6 +2,7 @@
 use mathlib.Core.Bool.{cond}
 use mathlib.Core.List.{List}
 use Prim.Native.Nat.{ℕ, _+_}
+use Prim.Native.Char.{code}
 use lib.Dec.{eqb}
 use lib.ListN.{length, getD}
 use Rattle.slices.specs.Tables.{rows}
@@ -12,7 +13,7 @@ use Rattle.format.specs.Format.{Format, done, num, each}
 
 -- After the i-th of m numbers stands a space; after the last, a line feed.
 abbrev pub separator : ℕ → ℕ → ℕ
-separator m i = cond (eqb (i + 1) m) 10 32
+separator m i = cond (eqb (i + 1) m) (code "\n") (code " ")
 
 abbrev pub columnOf : Row → ℕ → Column
 columnOf r i = cond (eqb i 0) (r .first) (cond (eqb i 1) (r .second) (cond (eqb i 2) (r .third) (r .rest)))

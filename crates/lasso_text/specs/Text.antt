@@ -1,24 +1,26 @@
 -- A lasso as text (02; 01: a show): the block `part scene`. Assumes nothing.
-use mathlib.Core.List.{List, [], _∷_, _++_}
+use mathlib.Core.List.{List, _++_}
 use Prim.Native.Nat.{ℕ}
+use Prim.Native.Char.{code}
 use lib.ListN.{length, getD}
 use Rattle.slices.specs.Tables.{rows}
+use Rattle.slices.specs.Texts.{bytes}
 use Rattle.fdfa.specs.Family.{Lasso}
 use Rattle.numbers.specs.Digits.{field}
 
--- "part scene" and a line feed; "opening" and a space; "loop" and a space
+-- The line of names, and what begins the line of a scene.
 abbrev pub title : List ℕ
-title = 112 ∷ 97 ∷ 114 ∷ 116 ∷ 32 ∷ 115 ∷ 99 ∷ 101 ∷ 110 ∷ 101 ∷ 10 ∷ []
+title = bytes "part scene\n"
 
 abbrev pub prefixName : List ℕ
-prefixName = 111 ∷ 112 ∷ 101 ∷ 110 ∷ 105 ∷ 110 ∷ 103 ∷ 32 ∷ []
+prefixName = bytes "opening "
 
 abbrev pub periodName : List ℕ
-periodName = 108 ∷ 111 ∷ 111 ∷ 112 ∷ 32 ∷ []
+periodName = bytes "loop "
 
 -- The line of a word's i-th letter: the name of its part, the letter, a line feed.
 abbrev pub letterLine : List ℕ → List ℕ → ℕ → List ℕ
-letterLine name w i = name ++ field (getD w i 0) 10
+letterLine name w i = name ++ field (getD w i 0) (code "\n")
 
 -- A line for each letter of a word.
 unfoldable pub letterLines : List ℕ → List ℕ → List ℕ

@@ -2,12 +2,13 @@
 use mathlib.Core.Bool.{cond}
 use mathlib.Core.List.{List, [], _∷_, _++_}
 use Prim.Native.Nat.{ℕ, zero, suc, _+_, _/_, _%_}
+use Prim.Native.Char.{code}
 use lib.Dec.{ltb}
 
 -- The last digit after those of n / 10; at most k of them.
 unfoldable pub digitsWithin : ℕ → ℕ → List ℕ
 digitsWithin zero n = []
-digitsWithin (suc k) n = cond (ltb n 10) ((48 + n) ∷ []) (digitsWithin k (n / 10) ++ ((48 + n % 10) ∷ []))
+digitsWithin (suc k) n = cond (ltb n 10) ((code "0" + n) ∷ []) (digitsWithin k (n / 10) ++ ((code "0" + n % 10) ∷ []))
 
 -- n has at most n + 1.
 unfoldable pub digitsOf : ℕ → List ℕ

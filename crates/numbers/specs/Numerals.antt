@@ -2,6 +2,7 @@
 use mathlib.Core.Bool.{Bool, cond, _||_, _&&_, not}
 use mathlib.Core.List.{List}
 use Prim.Native.Nat.{ℕ, zero, suc, _+_, _*_, _-_}
+use Prim.Native.Char.{code}
 use lib.Dec.{eqb, ltb, leb}
 use lib.ListN.{length, getD}
 use Rattle.slices.specs.declared.Part.{Part}
@@ -9,18 +10,18 @@ use Rattle.slices.specs.Scans.{firstOutside}
 use Rattle.numbers.specs.declared.Number.{Number}
 use Rattle.numbers.specs.declared.Number.the-variants.{Good, Refused}
 
--- How many digits stand from a place on: 0 is 48, 9 is 57.
+-- How many digits stand from a place on.
 unfoldable pub runOf : List ℕ → ℕ → ℕ
-runOf t at = firstOutside 48 58 t at (length t - at)
+runOf t at = firstOutside (code "0") (code "9" + 1) t at (length t - at)
 
 -- The value of the first r digits.
 unfoldable pub valueOf : List ℕ → ℕ → ℕ → ℕ
 valueOf t at zero = 0
-valueOf t at (suc r) = valueOf t at r * 10 + (getD t (at + r) 0 - 48)
+valueOf t at (suc r) = valueOf t at r * 10 + (getD t (at + r) 0 - code "0")
 
 -- No digit, more than three, or a needless leading zero.
 abbrev pub malformed : ℕ → ℕ → Bool
-malformed run first = eqb run 0 || (ltb 3 run || (not (eqb run 1) && eqb first 48))
+malformed run first = eqb run 0 || (ltb 3 run || (not (eqb run 1) && eqb first (code "0")))
 
 -- A number that is badly formed is 11, of the text's part.
 abbrev pub misread : Part → ℕ → Number
