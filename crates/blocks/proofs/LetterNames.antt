@@ -8,14 +8,15 @@ use native.Mathlib.Decide.{decLt}
 use lib.ListN.{length, take, length-append}
 use lib.Seq.{take-append-seam}
 use Rattle.slices.specs.Tables.{rows}
+use Rattle.slices.specs.Texts.{bytes}
 use Rattle.slices.proofs.Tables.{rows-cut}
 use Rattle.numbers.specs.Digits.{digitsWithin, digitsOf}
 use Rattle.numbers.proofs.Digits.{digits-one, digits-two}
 use Rattle.blocks.specs.Text.{names}
 
--- " s0 s1 .. s31"
 abbrev pub allNames : List ℕ
-allNames = 32 ∷ 115 ∷ 48 ∷ 32 ∷ 115 ∷ 49 ∷ 32 ∷ 115 ∷ 50 ∷ 32 ∷ 115 ∷ 51 ∷ 32 ∷ 115 ∷ 52 ∷ 32 ∷ 115 ∷ 53 ∷ 32 ∷ 115 ∷ 54 ∷ 32 ∷ 115 ∷ 55 ∷ 32 ∷ 115 ∷ 56 ∷ 32 ∷ 115 ∷ 57 ∷ 32 ∷ 115 ∷ 49 ∷ 48 ∷ 32 ∷ 115 ∷ 49 ∷ 49 ∷ 32 ∷ 115 ∷ 49 ∷ 50 ∷ 32 ∷ 115 ∷ 49 ∷ 51 ∷ 32 ∷ 115 ∷ 49 ∷ 52 ∷ 32 ∷ 115 ∷ 49 ∷ 53 ∷ 32 ∷ 115 ∷ 49 ∷ 54 ∷ 32 ∷ 115 ∷ 49 ∷ 55 ∷ 32 ∷ 115 ∷ 49 ∷ 56 ∷ 32 ∷ 115 ∷ 49 ∷ 57 ∷ 32 ∷ 115 ∷ 50 ∷ 48 ∷ 32 ∷ 115 ∷ 50 ∷ 49 ∷ 32 ∷ 115 ∷ 50 ∷ 50 ∷ 32 ∷ 115 ∷ 50 ∷ 51 ∷ 32 ∷ 115 ∷ 50 ∷ 52 ∷ 32 ∷ 115 ∷ 50 ∷ 53 ∷ 32 ∷ 115 ∷ 50 ∷ 54 ∷ 32 ∷ 115 ∷ 50 ∷ 55 ∷ 32 ∷ 115 ∷ 50 ∷ 56 ∷ 32 ∷ 115 ∷ 50 ∷ 57 ∷ 32 ∷ 115 ∷ 51 ∷ 48 ∷ 32 ∷ 115 ∷ 51 ∷ 49 ∷ []
+allNames =
+    bytes " s0 s1 s2 s3 s4 s5 s6 s7 s8 s9 s10 s11 s12 s13 s14 s15 s16 s17 s18 s19 s20 s21 s22 s23 s24 s25 s26 s27 s28 s29 s30 s31"
 
 all-names : allNames ≡ names 32
 unfolding rows digitsOf digitsWithin
