@@ -66,11 +66,12 @@ unfolding numbersOf numbersBelow transitions transition acceptingStates acceptin
 turns = (refl, refl, refl, refl)
 
 -- no accepting state, where a target is too large; the end within a line; that target once all else is good; an accepting state again; one
--- that is too large, and an equal one after it; a transition after an accepting state
+-- that is too large, and an equal one after it; a transition after an accepting state; a byte that begins no line, before any accepting state: it
+-- is 11 that goes before 13
 pub stages :
     (says "[0]\ns0,[0]->[99]\n" ≡ faultOf 13 First 17) × (says "[0]\ns0,[0]->[99]\n[" ≡ faultOf 11 First 18)
     × (says "[0]\ns0,[0]->[99]\n[0]\n" ≡ faultOf 5 First 13) × (says "[0]\ns0,[0]->[0]\n[0]\n[0]\n" ≡ faultOf 12 First 21)
     × (says "[0]\ns0,[0]->[0]\n[1]\n" ≡ faultOf 5 First 17) × (says "[0]\ns0,[0]->[0]\n[1]\n[1]\n" ≡ faultOf 12 First 21)
-    × (says "[0]\ns0,[0]->[0]\n[0]\ns0,[0]->[0]\n" ≡ faultOf 11 First 20)
+    × (says "[0]\ns0,[0]->[0]\n[0]\ns0,[0]->[0]\n" ≡ faultOf 11 First 20) × (says "[0]\ns0,[0]->[0]\nx" ≡ faultOf 11 First 16)
 unfolding numbersOf numbersBelow transitions transition acceptingStates acceptingState countBelow reading seq each chained labelled repeated repeats least numberAt runOf valueOf firstOutside
-stages = (refl, refl, refl, refl, refl, refl, refl)
+stages = (refl, refl, refl, refl, refl, refl, refl, refl)

@@ -23,10 +23,12 @@ opening-7-loop-31-0 = refl
 abbrev says : String → Fault
 says text = textFault (wordsOf 32 First (bytes text))
 
--- no text; the names alone; openings alone; the end within a line; an opening after the loop; a letter that is too large; a carriage return
+-- no text; the names alone; openings alone; the end within a line; an opening after the loop; a letter that is too large; a carriage return;
+-- a byte that begins no line, before any loop line: it is 11 that goes before 8
 pub refusals :
     (says "" ≡ faultOf 11 First 0) × (says "part scene\n" ≡ faultOf 8 First 11) × (says "part scene\nopening 7\n" ≡ faultOf 8 First 21)
     × (says "part scene\nl" ≡ faultOf 11 First 12) × (says "part scene\nloop 0\nopening 7\n" ≡ faultOf 11 First 18)
     × (says "part scene\nloop 32" ≡ faultOf 9 First 16) × (says "part scene\nloop 0\n\r" ≡ faultOf 11 First 18)
+    × (says "part scene\nx" ≡ faultOf 11 First 11) × (says "part scene\nopening 7\nx" ≡ faultOf 11 First 21)
 unfolding wordsOf reading seq each labelled repeated repeats least numberAt runOf valueOf firstOutside
-refusals = (refl, refl, refl, refl, refl, refl, refl)
+refusals = (refl, refl, refl, refl, refl, refl, refl, refl, refl)
