@@ -2,24 +2,27 @@
  * Rule sheets (families of DFAs) and the shows that they admit: every call of the library, for C.
  *
  * A show is an opening, which may be empty, and a loop, which may not: scenes of one byte each, from 0 up to one less than the sheet's
- * scene count. A packed sheet is bytes: the scene count s; the number n of leading places; the sizes k(0) to k(n-1) of the loop automata;
- * n x s leading next places, place by place and scene by scene; then for each place q its k(q) x s loop next places and k(q) marks, 0 or
- * 1. Counts are from 1 to 32, so a sheet has at most FDFA_LONGEST_SHEET bytes. Place 0 is the start everywhere.
+ * scene count. A packed sheet is bytes: the scene count s; the number n of leading places; the sizes k(0) to k(n-1) of the loop automata; n
+ * x s leading next places, place by place and scene by scene; then for each place q its k(q) x s loop next places and k(q) marks, 0 or 1.
+ * Counts are from 1 to 32, so a sheet has at most FDFA_LONGEST_SHEET bytes. Place 0 is the start everywhere.
  *
- * The closing numbers i and j of a show are the smallest for which the leading place after the opening and i turns of the loop is that
- * after i + j turns; the show closes if i is 0 and j is 1. It is accepted if j turns of the loop lead from loop place 0 to a marked place, in
- * the loop automaton of that leading place. Of two shows the first is the one with the shorter opening, or the smaller scene where the
- * openings first differ; for equal openings the same of the loops. A sheet waits at the leading place after the opening, and ends at the
- * loop place after one turn. Of two sheets N is n1 x n2 and K the largest k1 times the largest k2, of one sheet n and its largest k; R is how
- * many of these N some opening reaches.
+ * The closing numbers of a show, i from 0 and j from 1, are the smallest for which the leading place after the opening and i turns of the
+ * loop is that after i + j turns; the show closes if i is 0 and j is 1. It is accepted if j turns of the loop lead from loop place 0 to a
+ * marked place, in the loop automaton of that leading place. Of two shows the first is the one with the shorter opening, or the smaller
+ * scene where the openings first differ; for equal openings the same of the loops. A sheet waits at the leading place after the opening,
+ * and ends at the loop place after one turn. Of two sheets N is n1 x n2 and K the largest k1 times the largest k2, of one sheet n and its
+ * largest k; R is how many of these N some opening reaches. A first counter-show has at most N - 1 scenes of opening and N x K of loop.
+ *
+ * A sheet is steady if further turns leave every verdict alone: with a turns of the loop added to the opening, a from 0, and a loop of b
+ * turns, b from 1, a show is judged as before.
  *
  * A slice is a pointer and a length in cells: bytes, or numbers of 16 or 64 bits, aligned as their type asks. The pointer of an empty slice
  * may be anything, NULL too; any other points to that many readable cells, and to writable ones where it is not const. A slice that a call
  * writes may not overlap any other slice of the call; slices that are only read may. A call keeps no pointer, allocates nothing, needs no
  * call before it and shares nothing with others: any number may run at once on slices of their own.
  *
- * Cells may hold anything: what is at fault is told as a refusal, and a refused call changes no slice but the answer (one exception: at
- * 23 the work cells are cleared as after an answer). Refusals are listed below in the order in which they are judged; in a text the smallest
+ * Cells may hold anything: what is at fault is told as a refusal, and a refused call changes no slice but the answer (one exception: at 23
+ * the work cells are cleared as after an answer). Refusals are listed below in the order in which they are judged; in a text the smallest
  * place goes first. A packed sheet is judged for 1 (two bytes), 2, 3, 1 (the sizes), 4, 1 (the whole), then for the first byte that is 5 or
  * 6.
  *
@@ -28,7 +31,7 @@
  * returns 1, or 0 if the answer slice is too short, when nothing at all is changed.
  *
  * Stack: fdfa_compare_in and fdfa_emptiness take up to 1,280 KiB whatever the sheets, fdfa_compare 256, fdfa_sheet_read 128, every other
- * call 64. For x86-64 Linux; the archive has no unwind tables.
+ * call 64. For x86-64 Linux, C99 or C++; the archive needs memcpy and memset, nothing else, and has no unwind tables.
  */
 #ifndef FDFA_H
 #define FDFA_H
@@ -40,7 +43,7 @@
 extern "C" {
 #endif
 
-/* Numbers of 64 bits go in and come back as size_t. */
+/* Numbers go in as size_t and come back from fdfa_number as uint64_t. */
 typedef char fdfa_size_t_has_64_bits[sizeof(size_t) == 8 ? 1 : -1];
 
 /* The longest packed sheet, and the longest text of one. */
@@ -126,8 +129,9 @@ uint32_t fdfa_verdict(const uint8_t *sheet, size_t sheet_len,
                       uint8_t *answer, size_t answer_len);
 
 /*
- * Whether every show that closes in both sheets and is accepted by the first is accepted by the second; if not, the first counter-show
- * is written from the start of opening and loop, where both parts fit. It brings 8,192 work cells of its own.
+ * Whether every show that closes in both sheets and is accepted by the first is accepted by the second; if not, the first counter-show is
+ * written from the start of opening and loop, where both parts fit: 1,023 and 8,191 cells suffice. It brings 8,192 work cells of its own,
+ * and takes at most some tenths of a second.
  * Answer: 0 contained or 1 missing, R, length of the opening, length of the loop, first waits, first ends, second waits, second ends.
  * Refusals: 1 to 6 (first), 1 to 7 (second), 22 (work), 23 (opening, else loop).
  */
@@ -149,7 +153,8 @@ uint32_t fdfa_complement(const uint8_t *sheet, size_t sheet_len,
                          uint8_t *answer, size_t answer_len);
 
 /*
- * The product of two sheets, marked where both are, to out. Answer: length.
+ * The product of two sheets, marked where both are, to out. A show that closes in both sheets is accepted exactly if both accept it; any
+ * other show is too, where both sheets are steady. The pair of places p and q has the number p x n2 + q, loop places alike. Answer: length.
  * Refusals: 1 to 6 (first), 1 to 7 (second), 20, 21 (out).
  */
 uint32_t fdfa_intersection(const uint8_t *first, size_t first_len,
@@ -157,7 +162,7 @@ uint32_t fdfa_intersection(const uint8_t *first, size_t first_len,
                            uint8_t *out, size_t out_len,
                            uint8_t *answer, size_t answer_len);
 
-/* The same, marked where either is. */
+/* The same, marked where either is, for shows that either accepts. */
 uint32_t fdfa_union(const uint8_t *first, size_t first_len,
                     const uint8_t *second, size_t second_len,
                     uint8_t *out, size_t out_len,
@@ -166,8 +171,9 @@ uint32_t fdfa_union(const uint8_t *first, size_t first_len,
 /* ---- Searches in lent cells ---- */
 
 /*
- * fdfa_compare in lent work cells: N + N x K of them, which refusal 22 has as its place. After an answer or 23 they are 0, cells behind them
- * as before. Answer and refusals as fdfa_compare's.
+ * fdfa_compare in lent work cells: N + N x K of them, at most 1,049,600, which refusal 22 has as its place. After an answer or 23 they are
+ * 0, cells behind them as before. The time grows with R x N x K x s: of the largest sheets it is some half a minute. Answer and refusals as
+ * fdfa_compare's.
  */
 uint32_t fdfa_compare_in(const uint8_t *first, size_t first_len,
                          const uint8_t *second, size_t second_len,
@@ -177,7 +183,8 @@ uint32_t fdfa_compare_in(const uint8_t *first, size_t first_len,
                          uint8_t *answer, size_t answer_len);
 
 /*
- * Whether the sheet accepts no show at all; if not, the first accepted show that closes is written. N + N x K work cells, as above.
+ * Whether the sheet accepts no show at all; if not, the first accepted show that closes is written. N + N x K work cells, as above, at most
+ * 1,056; 31 cells of opening and 1,024 of loop suffice.
  * Answer: 0 empty or 1 found, R, then as fdfa_compare's, 0 for the second sheet.
  * Refusals: 1 to 6 (first), 22 (work), 23 (opening, else loop).
  */
@@ -220,8 +227,8 @@ uint32_t fdfa_pass_start(uint8_t *answer, size_t answer_len);
 
 /*
  * The pass goes on over a part, from the three numbers that it held (a failed that is not 0 counts as 1). Answer as above. Refusals: 1 to 6
- * (first). One that is held in a place which the sheet has not has failed at its position; a position of more than 64 bits is told as the
- * largest number.
+ * (first). A place that is not below n counts as failed at the position given, and a failed pass comes back as it is. A position of more
+ * than 64 bits is told as the largest number.
  */
 uint32_t fdfa_pass_on(const uint8_t *sheet, size_t sheet_len,
                       size_t failed, size_t state, size_t position,
@@ -230,7 +237,7 @@ uint32_t fdfa_pass_on(const uint8_t *sheet, size_t sheet_len,
 
 /* ---- Texts (docs/TEXTS.md) ---- */
 
-/* The number at a place of a text. Answer: its value, the place after it. Refusal: 11 (first). */
+/* The number at a place of a text. Answer: its value, the place after it. Refusal: 11 (first), behind the text at its length. */
 uint32_t fdfa_number_read(const uint8_t *text, size_t text_len,
                           size_t place,
                           uint8_t *answer, size_t answer_len);
@@ -256,7 +263,7 @@ uint32_t fdfa_sheet_write(size_t level,
 
 /*
  * The show of a text, to opening and loop; scenes are from 0 to 31, whatever the sheet. Answer: both lengths.
- * Refusals: 8, 9, 11 (first), 21 (opening), 21 (loop).
+ * Refusals: 9, 11, and at the text's length 11 before 8 (first), 21 (opening), 21 (loop).
  */
 uint32_t fdfa_show_read(const uint8_t *text, size_t text_len,
                         uint8_t *opening, size_t opening_len,
@@ -270,7 +277,9 @@ uint32_t fdfa_show_write(const uint8_t *opening, size_t opening_len,
                          uint8_t *answer, size_t answer_len);
 
 /*
- * The packed sheet of a drawn (deterministic Buchi) automaton's text, to out. Answer: length.
+ * The packed sheet of a drawn (deterministic Buchi) automaton's text, to out: it accepts a show exactly if the automaton's run on it enters
+ * accepting places without end. With n places every loop automaton has 2n: in that of q, place r with flag f, whether an accepting one was
+ * entered, has the number 2 x ((r + n - q) mod n) + f, marked where f is 1. Answer: length.
  * Refusals: 2, 3, 11 to 13, then 5 (first), 21 (out).
  */
 uint32_t fdfa_import(const uint8_t *text, size_t text_len,

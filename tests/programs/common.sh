@@ -119,7 +119,7 @@ sentence() {
         2) echo 'the number of scenes is not from 1 to 32' ;;
         3) echo 'the number of places is not from 1 to 32, or 16 in a drawn automaton' ;;
         4) echo 'the number of loop places is not from 1 to 32' ;;
-        5) echo 'this place is not below the number of places' ;;
+        5) echo 'this place is not below the number of places of its automaton' ;;
         6) echo 'this mark is neither 0 nor 1' ;;
         7) echo 'the two sheets have different numbers of scenes' ;;
         8) echo 'the show has no loop' ;;

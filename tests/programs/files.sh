@@ -194,12 +194,24 @@ judge 'a target that is there grows too large: its other name too' test old -ef 
 expect 'what a link leads to grows too large' '' "link: File too large$nl" limited good link
 judge 'what a link leads to grows too large: it stays' test "$(cat old)" = 'as before'
 judge 'what a link leads to grows too large: the link stays' test "$(readlink link)" = old
+for length in 1500 200000; do # longer than what may be written: the write fails where the file has bytes
+    yes 'as before' | head -c "$length" > long
+    cp long "$top/long"
+    ln -sf long to_long
+    expect "what a link leads to, of $length bytes, is too large" '' "to_long: File too large$nl" limited good to_long
+    judge "what a link leads to, of $length bytes, is too large: it stays" cmp "$top/long" long
+done
+rm long to_long
 ln -s "$top/missing" to_be # what is made through a link lies elsewhere
 expect 'what a link is to lead to grows too large' '' "to_be: File too large$nl" limited good to_be
 judge 'what a link is to lead to grows too large: the link stays' test "$(readlink to_be)" = "$top/missing"
 judge 'what a link is to lead to grows too large: it is empty' test ! -s "$top/missing"
 cp good both
 if [ "$program" != import ]; then
+    ln -s both to_both
+    expect 'a link to the source, and it grows too large' '' "to_both: File too large$nl" limited both to_both
+    judge 'a link to the source, and it grows too large: it stays' cmp good both
+    rm to_both
     expect 'source and target are one, and grow too large' '' "both: File too large$nl" limited both both
     judge 'source and target are one, and grow too large: it stays' cmp good both
 fi
@@ -233,7 +245,7 @@ ln -s far farther
 echo 'as before' > old
 takes 'a link to a link' good farther
 mkfifo pipe
-cat pipe > "$top/piped" &
+timeout 60 cat pipe > "$top/piped" &
 expect 'a pipe' '' '' run good pipe
 wait $!
 judge 'a pipe: what came' cmp "$top/made" "$top/piped"
@@ -285,6 +297,10 @@ else
     judge 'a folder that is shut, a file that is closed: it stays' test "$(cat shut/closed)" = 'as before'
     expect 'a folder that is shut, a file that grows too large' '' "shut/old: File too large$nl" as_user bash -c "trap '' XFSZ; ulimit -f 1; exec \"\$@\"" bash "$top/program" good shut/old
     judge 'a folder that is shut, a file that grows too large: it stays' test "$(cat shut/old)" = 'as before'
+    yes 'as before' | head -c 200000 > shut/link_to
+    cp shut/link_to "$top/long"
+    expect 'a folder that is shut, a file that is longer' '' "shut/link_to: File too large$nl" as_user bash -c "trap '' XFSZ; ulimit -f 1; exec \"\$@\"" bash "$top/program" good shut/link_to
+    judge 'a folder that is shut, a file that is longer: it stays' cmp "$top/long" shut/link_to
     for name in shut/old shut/link sticky/old; do
         expect "a file that may be written, $name" '' '' as_user "$top/program" good "$name"
         judge "a file that may be written, $name: it is" cmp "$top/made" "$name"

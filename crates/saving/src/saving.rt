@@ -1,6 +1,7 @@
 // Files that are made whole or not at all. A regular file, or one that is not there yet, is written beside and then
-// renamed; what a link leads to is written in place, the part that it grows by first, so that it stays as it was where
-// there is no room; a device or a pipe takes the bytes as they come. What fails is said on standard error.
+// renamed; what a link leads to is written in place, and as it was where that fails; a device or a pipe takes the bytes
+// as they come. What fails is said on standard error.
+use crate::Staged;
 use crate::looking::FILE;
 use crate::looking::NONE;
 use crate::looking::OTHER;
@@ -10,36 +11,21 @@ use crate::looking::is_link;
 use crate::looking::look;
 use crate::looking::one_file;
 use crate::looking::path_of;
+use crate::placing::finish;
+use crate::placing::give_back;
+use crate::placing::open_place;
+use crate::placing::settle;
+use crate::placing::undo;
+use crate::placing::within;
+use crate::placing::write_over;
 use format::put_literal;
 use libc::PATH_MAX;
 ghost use Rattle.io.specs.Counts.{Counts};
 ghost use Rattle.libc.specs.Io.{Ended};
 
-// Room for the name of a file beside another.
-const NAME: usize = PATH_MAX + 16;
-
-// What is ready to be written: nothing; a device or a pipe, to be opened; a file that is open, and the length that it
-// had; or a file beside the one to be made, the length of its name, and whether the one to be made is new.
-enum Staged {
-    Failed,
-    Stream,
-    Place(i32, i64),
-    Beside(usize, bool),
-}
-
-// A number of bytes of a slice.
-fn within(n: usize, bytes: &[u8]) -> usize
-    ensures { λ r. ⌜ Counts r (now (bytes .entry)) ⌝ }
-{
-    if n < bytes.len() { n } else { bytes.len() }
-}
-
-// How many bytes of those that are written lie where a file has bytes already.
-fn kept(old: i64, bytes: &[u8]) -> usize
-    ensures { λ r. ⌜ Counts r (now (bytes .entry)) ⌝ }
-{
-    io::count(old as isize, bytes)
-}
+// Room for the name of a file beside another, or for the bytes of one that is written over: the longest text of a sheet
+// has 109,630 bytes.
+const ROOM: usize = 110592;
 
 // The name of a file in the folder of another, to be completed, and its length.
 fn name_beside(path: &[u8], name: &mut [u8]) -> usize
@@ -78,43 +64,13 @@ fn fill(fd: i32, old: Seen, bytes: &[u8]) -> bool {
     libc::fsync(fd) == 0
 }
 
-// Writes the part that a file grows by, and waits until there is room for it.
-fn grow(fd: i32, bytes: &[u8]) -> bool {
-    if !io::write_all(fd, bytes) {
-        return false;
-    }
-    libc::fsync(fd) == 0
-}
-
-// Opens a file in place and writes the part that it grows by; what it holds stays until the rest is written.
-fn stage_place(kind: u8, path: &[u8], bytes: &[u8]) -> Staged {
-    let fd = if kind == NONE {
-        os::open_overwrite(path)
-    } else {
-        os::open_update(path)
-    };
-    if fd < 0 {
-        os::fail(path);
-        return Staged::Failed;
-    }
-    let old = libc::lseek(fd, 0, libc::SEEK_END);
-    let n = kept(old, bytes);
-    if !grow(fd, &bytes[n..]) {
-        os::fail(path);
-        libc::ftruncate(fd, old);
-        libc::close(fd);
-        return Staged::Failed;
-    }
-    Staged::Place(fd, old)
-}
-
 // Where no file can be made beside: in place of the one that is there.
-fn stage_instead(kind: u8, path: &[u8], bytes: &[u8]) -> Staged {
+fn stage_instead(kind: u8, path: &[u8], bytes: &[u8], held: &mut [u8]) -> Staged {
     if kind == NONE {
         os::fail(path);
         return Staged::Failed;
     }
-    stage_place(kind, path, bytes)
+    open_place(kind, path, bytes, held)
 }
 
 // Writes a file beside the one to be made.
@@ -122,7 +78,7 @@ fn stage_beside(path: &[u8], bytes: &[u8], name: &mut [u8], old: Seen) -> Staged
     let n = name_beside(path, name);
     let fd = make_beside(old.kind, &mut name[..n]);
     if fd < 0 {
-        return stage_instead(old.kind, path, bytes);
+        return stage_instead(old.kind, path, bytes, name);
     }
     let whole = fill(fd, old, bytes);
     if !finish(fd, path, whole) {
@@ -130,18 +86,6 @@ fn stage_beside(path: &[u8], bytes: &[u8], name: &mut [u8], old: Seen) -> Staged
         return Staged::Failed;
     }
     Staged::Beside(n, old.kind == NONE)
-}
-
-// Closes what was written whole or not, and says what failed. Whether all went well.
-fn finish(fd: i32, path: &[u8], whole: bool) -> bool {
-    if !whole {
-        os::fail(path);
-    }
-    let closed = libc::close(fd) == 0;
-    if whole && !closed {
-        os::fail(path);
-    }
-    whole && closed
 }
 
 // Whether a regular file may be written.
@@ -169,7 +113,8 @@ fn is_usable(kind: u8, path: &[u8]) -> bool {
     true
 }
 
-// Makes ready what can be, and leaves what is there as it is.
+// Makes ready what can be, and leaves what is there as it is. The lent slice has the name of the file beside, or the
+// bytes of the file in place.
 fn stage(path: &[u8], bytes: &[u8], name: &mut [u8]) -> Staged {
     let full = path_of(path);
     let seen = look(&full);
@@ -180,7 +125,7 @@ fn stage(path: &[u8], bytes: &[u8], name: &mut [u8]) -> Staged {
         return Staged::Stream;
     }
     if is_link(&full) {
-        return stage_place(seen.kind, path, bytes);
+        return open_place(seen.kind, path, bytes, name);
     }
     if !may_write(seen.kind, &full) {
         os::fail(path);
@@ -200,52 +145,21 @@ fn put_stream(path: &[u8], bytes: &[u8]) -> bool {
     finish(fd, path, whole)
 }
 
-// A file in place has the length that it had.
-fn cut_back(fd: i32, old: i64, bytes: &[u8]) {
-    if kept(old, bytes) < bytes.len() {
-        libc::ftruncate(fd, old);
-    }
-}
-
-// From the start of a file.
-fn overwrite(fd: i32, bytes: &[u8]) -> bool {
-    if libc::lseek(fd, 0, libc::SEEK_SET) != 0 {
-        return false;
-    }
-    io::write_all(fd, bytes)
-}
-
-// Over the bytes that a file has; where they are more, it is cut.
-fn put_over(fd: i32, old: i64, bytes: &[u8]) -> bool {
-    let n = kept(old, bytes);
-    if !overwrite(fd, &bytes[..n]) {
-        cut_back(fd, old, bytes);
-        return false;
-    }
-    if n == bytes.len() && libc::ftruncate(fd, libc::lseek(fd, 0, libc::SEEK_CUR)) < 0 {
-        return false;
-    }
-    libc::fsync(fd) == 0
-}
-
-fn put_place(fd: i32, old: i64, path: &[u8], bytes: &[u8]) -> bool {
-    let whole = put_over(fd, old, bytes);
-    finish(fd, path, whole)
-}
-
 // Where the name of a file that is there cannot be taken, as at a mount point: in place.
-fn put_instead(path: &[u8], bytes: &[u8]) -> bool {
-    let staged = stage_place(FILE, path, bytes);
+fn put_instead(path: &[u8], bytes: &[u8], held: &mut [u8]) -> bool {
+    let staged = open_place(FILE, path, bytes, held);
     match staged {
         Staged::Failed => false,
         Staged::Stream => false,
-        Staged::Place(fd, old) => put_place(fd, old, path, bytes),
+        Staged::Place(fd, old) => {
+            write_over(fd, old, path, bytes, held) && settle(fd, old, path, bytes)
+        }
         Staged::Beside(_, _) => false,
     }
 }
 
 // The file beside takes the name.
-fn put_beside(n: usize, new: bool, path: &[u8], bytes: &[u8], name: &[u8]) -> bool {
+fn put_beside(n: usize, new: bool, path: &[u8], bytes: &[u8], name: &mut [u8]) -> bool {
     let m = within(n, name);
     if os::rename(&name[..m], path) == 0 {
         return true;
@@ -254,23 +168,27 @@ fn put_beside(n: usize, new: bool, path: &[u8], bytes: &[u8], name: &[u8]) -> bo
         os::fail(path);
     }
     remove(n, name);
-    !new && put_instead(path, bytes)
+    !new && put_instead(path, bytes, name)
 }
 
-// Makes what is ready, and answers whether it is made.
-fn commit(staged: Staged, path: &[u8], bytes: &[u8], name: &[u8]) -> bool {
+// Does what can be taken back and may fail: a file in place is written over.
+fn begin(staged: Staged, path: &[u8], bytes: &[u8], held: &[u8]) -> bool {
     match staged {
         Staged::Failed => false,
-        Staged::Stream => put_stream(path, bytes),
-        Staged::Place(fd, old) => put_place(fd, old, path, bytes),
-        Staged::Beside(n, new) => put_beside(n, new, path, bytes, name),
+        Staged::Stream => true,
+        Staged::Place(fd, old) => write_over(fd, old, path, bytes, held),
+        Staged::Beside(_, _) => true,
     }
 }
 
-// A file in place is as it was.
-fn give_back(fd: i32, old: i64, bytes: &[u8]) {
-    cut_back(fd, old, bytes);
-    libc::close(fd);
+// Makes what is begun, and answers whether it is made.
+fn complete(staged: Staged, path: &[u8], bytes: &[u8], name: &mut [u8]) -> bool {
+    match staged {
+        Staged::Failed => false,
+        Staged::Stream => put_stream(path, bytes),
+        Staged::Place(fd, old) => settle(fd, old, path, bytes),
+        Staged::Beside(n, new) => put_beside(n, new, path, bytes, name),
+    }
 }
 
 // Removes the file beside.
@@ -279,7 +197,7 @@ fn remove(n: usize, name: &[u8]) {
     os::unlink(&name[..m]);
 }
 
-// Nothing is made: what is there is as it was.
+// Nothing is begun: what is there is as it was.
 fn abandon(staged: Staged, bytes: &[u8], name: &[u8]) {
     match staged {
         Staged::Failed => {}
@@ -289,25 +207,18 @@ fn abandon(staged: Staged, bytes: &[u8], name: &[u8]) {
     }
 }
 
-// Which of two is made first: what cannot be taken back and may fail comes before what is ready to the last byte.
-fn rank(staged: Staged) -> u8 {
+// What was begun is as it was.
+fn take_back(staged: Staged, bytes: &[u8], held: &[u8]) {
     match staged {
-        Staged::Failed => 0,
-        Staged::Stream => 1,
-        Staged::Place(_, _) => 2,
-        Staged::Beside(_, _) => 3,
+        Staged::Failed => {}
+        Staged::Stream => {}
+        Staged::Place(fd, old) => undo(fd, old, bytes, held),
+        Staged::Beside(n, _) => remove(n, held),
     }
 }
 
-// Makes a file of these bytes, and answers whether it is made.
-pub fn save(path: &[u8], bytes: &[u8]) -> bool {
-    let mut name = [0u8; NAME];
-    let staged = stage(path, bytes, &mut name);
-    commit(staged, path, bytes, &name)
-}
-
 // Removes a file that was made, where none was before.
-fn take_back(staged: Staged, path: &[u8]) {
+fn unmake(staged: Staged, path: &[u8]) {
     match staged {
         Staged::Failed => {}
         Staged::Stream => {}
@@ -320,9 +231,26 @@ fn take_back(staged: Staged, path: &[u8]) {
     }
 }
 
-// Makes one of two files and then the other. Where the one cannot be made, the other is as it was; where the other
-// cannot, the one goes again if it is new.
-fn commit_both(
+// Which of two is made first: what may fail and cannot be taken back, then what is ready to the last byte, then what is
+// only to be cut.
+fn rank(staged: Staged) -> u8 {
+    match staged {
+        Staged::Failed => 0,
+        Staged::Stream => 1,
+        Staged::Beside(_, _) => 2,
+        Staged::Place(_, _) => 3,
+    }
+}
+
+// Makes a file of these bytes, and answers whether it is made.
+pub fn save(path: &[u8], bytes: &[u8]) -> bool {
+    let mut name = [0u8; ROOM];
+    let staged = stage(path, bytes, &mut name);
+    begin(staged, path, bytes, &name) && complete(staged, path, bytes, &mut name)
+}
+
+// Begins both of two files, or neither.
+fn begin_both(
     first: Staged,
     one: &[u8],
     bytes: &[u8],
@@ -331,25 +259,48 @@ fn commit_both(
     two: &[u8],
     more: &[u8],
     name2: &[u8],
-) {
-    if !commit(first, one, bytes, name) {
+) -> bool {
+    if !begin(first, one, bytes, name) {
         abandon(second, more, name2);
+        return false;
+    }
+    if !begin(second, two, more, name2) {
+        take_back(first, bytes, name);
+        return false;
+    }
+    true
+}
+
+// Makes one of two files that are begun and then the other. Where the one cannot be made, the other is as it was; where
+// the other cannot, the one goes again if it is new.
+fn complete_both(
+    first: Staged,
+    one: &[u8],
+    bytes: &[u8],
+    name: &mut [u8],
+    second: Staged,
+    two: &[u8],
+    more: &[u8],
+    name2: &mut [u8],
+) {
+    if !complete(first, one, bytes, name) {
+        take_back(second, more, name2);
         return;
     }
-    if !commit(second, two, more, name2) {
-        take_back(first, one);
+    if !complete(second, two, more, name2) {
+        unmake(first, one);
     }
 }
 
 // Makes two files, both ready before one is made: where one cannot be, the other is as it was. Answers whether they are
 // two: names that lead to nothing may turn out to lead to one file.
 pub fn save_both(one: &[u8], bytes: &[u8], two: &[u8], more: &[u8]) -> bool {
-    let mut name = [0u8; NAME];
+    let mut name = [0u8; ROOM];
     let first = stage(one, bytes, &mut name);
-    let mut name2 = [0u8; NAME];
     if rank(first) == 0 {
         return true;
     }
+    let mut name2 = [0u8; ROOM];
     let second = stage(two, more, &mut name2);
     if rank(second) == 0 {
         abandon(first, bytes, &name);
@@ -360,10 +311,13 @@ pub fn save_both(one: &[u8], bytes: &[u8], two: &[u8], more: &[u8]) -> bool {
         abandon(second, more, &name2);
         return false;
     }
+    if !begin_both(first, one, bytes, &name, second, two, more, &name2) {
+        return true;
+    }
     if rank(second) < rank(first) {
-        commit_both(second, two, more, &name2, first, one, bytes, &name);
+        complete_both(second, two, more, &mut name2, first, one, bytes, &mut name);
     } else {
-        commit_both(first, one, bytes, &name, second, two, more, &name2);
+        complete_both(first, one, bytes, &mut name, second, two, more, &mut name2);
     }
     true
 }

@@ -23,7 +23,7 @@ sentences =
     ∷ row 2 "the number of scenes is not from 1 to 32"
     ∷ row 3 "the number of places is not from 1 to 32, or 16 in a drawn automaton"
     ∷ row 4 "the number of loop places is not from 1 to 32"
-    ∷ row 5 "this place is not below the number of places"
+    ∷ row 5 "this place is not below the number of places of its automaton"
     ∷ row 6 "this mark is neither 0 nor 1"
     ∷ row 7 "the two sheets have different numbers of scenes"
     ∷ row 8 "the show has no loop"

@@ -52,7 +52,11 @@ fn put_of_sheet(number: u8, out: &mut [u8], at: usize) -> usize
             at,
         ),
         4 => put_literal(b"the number of loop places is not from 1 to 32", out, at),
-        _ => put_literal(b"this place is not below the number of places", out, at),
+        _ => put_literal(
+            b"this place is not below the number of places of its automaton",
+            out,
+            at,
+        ),
     }
 }
 

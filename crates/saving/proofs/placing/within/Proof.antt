@@ -1,8 +1,8 @@
--- `saving::saving::within` meets its contract. Assumes nothing.
+-- `saving::placing::within` meets its contract. Assumes nothing.
 use native.Mathlib.Omega.{arith}
 use Rattle.io.proofs.Counting.{counts}
-use Rattle.saving.proofs.saving.within.Statement.{statement}
-use Rattle.saving.proofs.saving.within.Tie as tie
+use Rattle.saving.proofs.placing.within.Statement.{statement}
+use Rattle.saving.proofs.placing.within.Tie as tie
 
 returns : tie.Need-returns
 returns c = counts _ _ (omega arith)
