@@ -1,37 +1,42 @@
 /*
  * Rule sheets (families of DFAs) and the shows that they admit: every call of the library, for C.
  *
- * A show is an opening, which may be empty, and a loop, which may not: scenes of one byte each, from 0 up to one less than the sheet's
- * scene count. A packed sheet is bytes: the scene count s; the number n of leading places; the sizes k(0) to k(n-1) of the loop automata; n
- * x s leading next places, place by place and scene by scene; then for each place q its k(q) x s loop next places and k(q) marks, 0 or 1.
- * Counts are from 1 to 32, so a sheet has at most FDFA_LONGEST_SHEET bytes. Place 0 is the start everywhere.
+ * A show is an opening, which may be empty, and a loop, which may not: scenes of one byte each, from 0 up to one less
+ * than the sheet's scene count. A packed sheet is bytes: the scene count s; the number n of leading places; the sizes
+ * k(0) to k(n-1) of the loop automata; n x s leading next places, place by place and scene by scene; then for each
+ * place q its k(q) x s loop next places and k(q) marks, 0 or 1. Counts are from 1 to 32, so a sheet has at most
+ * FDFA_LONGEST_SHEET bytes. Place 0 is the start everywhere.
  *
- * The closing numbers of a show, i from 0 and j from 1, are the smallest for which the leading place after the opening and i turns of the
- * loop is that after i + j turns; the show closes if i is 0 and j is 1. It is accepted if j turns of the loop lead from loop place 0 to a
- * marked place, in the loop automaton of that leading place. Of two shows the first is the one with the shorter opening, or the smaller
- * scene where the openings first differ; for equal openings the same of the loops. A sheet waits at the leading place after the opening,
- * and ends at the loop place after one turn. Of two sheets N is n1 x n2 and K the largest k1 times the largest k2, of one sheet n and its
- * largest k; R is how many of these N some opening reaches. A first counter-show has at most N - 1 scenes of opening and N x K of loop.
+ * The closing numbers of a show, i from 0 and j from 1, are the smallest for which the leading place after the opening
+ * and i turns of the loop is that after i + j turns; the show closes if i is 0 and j is 1. It is accepted if j turns of
+ * the loop lead from loop place 0 to a marked place, in the loop automaton of that leading place. Of two shows the
+ * first is the one with the shorter opening, or the smaller scene where the openings first differ; for equal openings
+ * the same of the loops. A sheet waits at the leading place after the opening, and ends at the loop place after one
+ * turn. Of two sheets N is n1 x n2 and K the largest k1 times the largest k2, of one sheet n and its largest k; R is
+ * how many of these N some opening reaches. A first counter-show has at most N - 1 scenes of opening and N x K of loop.
  *
- * A sheet is steady if further turns leave every verdict alone: with a turns of the loop added to the opening, a from 0, and a loop of b
- * turns, b from 1, a show is judged as before.
+ * A sheet is steady if further turns leave every verdict alone: with a turns of the loop added to the opening, a from
+ * 0, and a loop of b turns, b from 1, a show is judged as before.
  *
- * A slice is a pointer and a length in cells: bytes, or numbers of 16 or 64 bits, aligned as their type asks. The pointer of an empty slice
- * may be anything, NULL too; any other points to that many readable cells, and to writable ones where it is not const. A slice that a call
- * writes may not overlap any other slice of the call; slices that are only read may. A call keeps no pointer, allocates nothing, needs no
- * call before it and shares nothing with others: any number may run at once on slices of their own.
+ * A slice is a pointer and a length in cells: bytes, or numbers of 16 or 64 bits, aligned as their type asks. The
+ * pointer of an empty slice may be anything, NULL too; any other points to that many readable cells, and to writable
+ * ones where it is not const. A slice that a call writes may not overlap any other slice of the call; slices that are
+ * only read may. A call keeps no pointer, allocates nothing, needs no call before it and shares nothing with others:
+ * any number may run at once on slices of their own.
  *
- * Cells may hold anything: what is at fault is told as a refusal, and a refused call changes no slice but the answer (one exception: at 23
- * the work cells are cleared as after an answer). Refusals are listed below in the order in which they are judged; in a text the smallest
- * place goes first. A packed sheet is judged for 1 (two bytes), 2, 3, 1 (the sizes), 4, 1 (the whole), then for the first byte that is 5 or
- * 6.
+ * Cells may hold anything: what is at fault is told as a refusal, and a refused call changes no slice but the answer
+ * (one exception: at 23 the work cells are cleared as after an answer). Refusals are listed below in the order in which
+ * they are judged; in a text the smallest place goes first. A packed sheet is judged for 1 (two bytes), 2, 3, 1 (the
+ * sizes), 4, 1 (the whole), then for the first byte that is 5 or 6.
  *
- * Every call fills the first bytes of its answer slice, as many as its constant FDFA_.._BYTES says, with numbers of 8 bytes, low byte
- * first: 0, the answer's numbers and zeros, or the refusal's number, part and place and zeros. fdfa_number reads one of them. A call
- * returns 1, or 0 if the answer slice is too short, when nothing at all is changed.
+ * Every call fills the first bytes of its answer slice, as many as its constant FDFA_.._BYTES says, with numbers of 8
+ * bytes, low byte first: 0, the answer's numbers and zeros, or the refusal's number, part and place and zeros.
+ * fdfa_number reads one of them. A call returns 1, or 0 if the answer slice is too short, when nothing at all is
+ * changed.
  *
- * Stack: fdfa_compare_in and fdfa_emptiness take up to 1,280 KiB whatever the sheets, fdfa_compare 256, fdfa_sheet_read 128, every other
- * call 64. For x86-64 Linux, C99 or C++; the archive needs memcpy and memset, nothing else, and has no unwind tables.
+ * Stack: fdfa_compare_in and fdfa_emptiness take up to 1,280 KiB whatever the sheets, fdfa_compare 256, fdfa_sheet_read
+ * 128, every other call 64. For x86-64 Linux, C99 or C++; the archive needs memcpy and memset, nothing else, and has no
+ * unwind tables.
  */
 #ifndef FDFA_H
 #define FDFA_H
@@ -129,10 +134,11 @@ uint32_t fdfa_verdict(const uint8_t *sheet, size_t sheet_len,
                       uint8_t *answer, size_t answer_len);
 
 /*
- * Whether every show that closes in both sheets and is accepted by the first is accepted by the second; if not, the first counter-show is
- * written from the start of opening and loop, where both parts fit: 1,023 and 8,191 cells suffice. It brings 8,192 work cells of its own,
- * and takes at most some tenths of a second.
- * Answer: 0 contained or 1 missing, R, length of the opening, length of the loop, first waits, first ends, second waits, second ends.
+ * Whether every show that closes in both sheets and is accepted by the first is accepted by the second; if not, the
+ * first counter-show is written from the start of opening and loop, where both parts fit: 1,023 and 8,191 cells
+ * suffice. It brings 8,192 work cells of its own, and takes at most some tenths of a second.
+ * Answer: 0 contained or 1 missing, R, length of the opening, length of the loop, first waits, first ends, second
+ * waits, second ends.
  * Refusals: 1 to 6 (first), 1 to 7 (second), 22 (work), 23 (opening, else loop).
  */
 uint32_t fdfa_compare(const uint8_t *first, size_t first_len,
@@ -143,7 +149,9 @@ uint32_t fdfa_compare(const uint8_t *first, size_t first_len,
 
 /* ---- Sheets ---- */
 
-/* Whether bytes are a packed sheet. Answer: scenes, leading places, largest loop automaton. Refusals: 1 to 6 (first). */
+/*
+ * Whether bytes are a packed sheet. Answer: scenes, leading places, largest loop automaton. Refusals: 1 to 6 (first).
+ */
 uint32_t fdfa_check(const uint8_t *sheet, size_t sheet_len,
                     uint8_t *answer, size_t answer_len);
 
@@ -153,8 +161,9 @@ uint32_t fdfa_complement(const uint8_t *sheet, size_t sheet_len,
                          uint8_t *answer, size_t answer_len);
 
 /*
- * The product of two sheets, marked where both are, to out. A show that closes in both sheets is accepted exactly if both accept it; any
- * other show is too, where both sheets are steady. The pair of places p and q has the number p x n2 + q, loop places alike. Answer: length.
+ * The product of two sheets, marked where both are, to out. A show that closes in both sheets is accepted exactly if
+ * both accept it; any other show is too, where both sheets are steady. The pair of places p and q has the number p x n2
+ * + q, loop places alike. Answer: length.
  * Refusals: 1 to 6 (first), 1 to 7 (second), 20, 21 (out).
  */
 uint32_t fdfa_intersection(const uint8_t *first, size_t first_len,
@@ -171,9 +180,9 @@ uint32_t fdfa_union(const uint8_t *first, size_t first_len,
 /* ---- Searches in lent cells ---- */
 
 /*
- * fdfa_compare in lent work cells: N + N x K of them, at most 1,049,600, which refusal 22 has as its place. After an answer or 23 they are
- * 0, cells behind them as before. The time grows with R x N x K x s: of the largest sheets it is some half a minute. Answer and refusals as
- * fdfa_compare's.
+ * fdfa_compare in lent work cells: N + N x K of them, at most 1,049,600, which refusal 22 has as its place. After an
+ * answer or 23 they are 0, cells behind them as before. The time grows with R x N x K x s: of the largest sheets it is
+ * some half a minute. Answer and refusals as fdfa_compare's.
  */
 uint32_t fdfa_compare_in(const uint8_t *first, size_t first_len,
                          const uint8_t *second, size_t second_len,
@@ -183,8 +192,8 @@ uint32_t fdfa_compare_in(const uint8_t *first, size_t first_len,
                          uint8_t *answer, size_t answer_len);
 
 /*
- * Whether the sheet accepts no show at all; if not, the first accepted show that closes is written. N + N x K work cells, as above, at most
- * 1,056; 31 cells of opening and 1,024 of loop suffice.
+ * Whether the sheet accepts no show at all; if not, the first accepted show that closes is written. N + N x K work
+ * cells, as above, at most 1,056; 31 cells of opening and 1,024 of loop suffice.
  * Answer: 0 empty or 1 found, R, then as fdfa_compare's, 0 for the second sheet.
  * Refusals: 1 to 6 (first), 22 (work), 23 (opening, else loop).
  */
@@ -202,7 +211,8 @@ uint32_t fdfa_cursor_start(const uint8_t *opening, size_t opening_len,
 
 /*
  * One scene further. Answer: the scene passed, then part and position of the cursor moved.
- * Refusals: 8 (loop), 24 (cursor); the cursor stays as it is. A part that is neither FDFA_OPENING nor FDFA_LOOP has no positions: 24.
+ * Refusals: 8 (loop), 24 (cursor); the cursor stays as it is. A part that is neither FDFA_OPENING nor FDFA_LOOP has no
+ * positions: 24.
  */
 uint32_t fdfa_cursor_step(size_t part, size_t position,
                           const uint8_t *opening, size_t opening_len,
@@ -210,8 +220,8 @@ uint32_t fdfa_cursor_step(size_t part, size_t position,
                           uint8_t *answer, size_t answer_len);
 
 /*
- * The rest of the part that the cursor is in. Answer: part, offset, length. Never refused: where a step would be, it is the empty part at
- * the opening's start.
+ * The rest of the part that the cursor is in. Answer: part, offset, length. Never refused: where a step would be, it is
+ * the empty part at the opening's start.
  */
 uint32_t fdfa_cursor_rest(size_t part, size_t position,
                           const uint8_t *opening, size_t opening_len,
@@ -220,15 +230,15 @@ uint32_t fdfa_cursor_rest(size_t part, size_t position,
 
 /*
  * The pass over an opening that comes in parts: what it holds before the first scene.
- * Answer: 0 as long as every scene was known, else 1; the leading place reached, 0 once failed; how many scenes were passed, or the
- * position of the first unknown one, counted from the opening's start. Never refused.
+ * Answer: 0 as long as every scene was known, else 1; the leading place reached, 0 once failed; how many scenes were
+ * passed, or the position of the first unknown one, counted from the opening's start. Never refused.
  */
 uint32_t fdfa_pass_start(uint8_t *answer, size_t answer_len);
 
 /*
- * The pass goes on over a part, from the three numbers that it held (a failed that is not 0 counts as 1). Answer as above. Refusals: 1 to 6
- * (first). A place that is not below n counts as failed at the position given, and a failed pass comes back as it is. A position of more
- * than 64 bits is told as the largest number.
+ * The pass goes on over a part, from the three numbers that it held (a failed that is not 0 counts as 1). Answer as
+ * above. Refusals: 1 to 6 (first). A place that is not below n counts as failed at the position given, and a failed
+ * pass comes back as it is. A position of more than 64 bits is told as the largest number.
  */
 uint32_t fdfa_pass_on(const uint8_t *sheet, size_t sheet_len,
                       size_t failed, size_t state, size_t position,
@@ -237,7 +247,10 @@ uint32_t fdfa_pass_on(const uint8_t *sheet, size_t sheet_len,
 
 /* ---- Texts (docs/TEXTS.md) ---- */
 
-/* The number at a place of a text. Answer: its value, the place after it. Refusal: 11 (first), behind the text at its length. */
+/*
+ * The number at a place of a text. Answer: its value, the place after it. Refusal: 11 (first), behind the text at its
+ * length.
+ */
 uint32_t fdfa_number_read(const uint8_t *text, size_t text_len,
                           size_t place,
                           uint8_t *answer, size_t answer_len);
@@ -277,9 +290,10 @@ uint32_t fdfa_show_write(const uint8_t *opening, size_t opening_len,
                          uint8_t *answer, size_t answer_len);
 
 /*
- * The packed sheet of a drawn (deterministic Buchi) automaton's text, to out: it accepts a show exactly if the automaton's run on it enters
- * accepting places without end. With n places every loop automaton has 2n: in that of q, place r with flag f, whether an accepting one was
- * entered, has the number 2 x ((r + n - q) mod n) + f, marked where f is 1. Answer: length.
+ * The packed sheet of a drawn (deterministic Buchi) automaton's text, to out: it accepts a show exactly if the
+ * automaton's run on it enters accepting places without end. With n places every loop automaton has 2n: in that of q,
+ * place r with flag f, whether an accepting one was entered, has the number 2 x ((r + n - q) mod n) + f, marked where f
+ * is 1. Answer: length.
  * Refusals: 2, 3, 11 to 13, then 5 (first), 21 (out).
  */
 uint32_t fdfa_import(const uint8_t *text, size_t text_len,

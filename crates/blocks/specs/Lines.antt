@@ -5,7 +5,8 @@ use Rattle.fdfa.specs.Family.{Fdfa}
 use Rattle.slices.specs.Tables.{rows}
 use Rattle.slices.specs.Texts.{bytes}
 use Rattle.format.specs.Rows.{line}
-use Rattle.blocks.specs.Text.{names, countsTitle, secondsTitle, timed, leadingTitle, progressTitle, countsOf, secondsValues, leadingValues, progressValues}
+use Rattle.blocks.specs.Text.{names, countsTitle, secondsTitle, timed, leadingTitle, progressTitle}
+use Rattle.blocks.specs.Text.{countsOf, secondsValues, leadingValues, progressValues}
 
 abbrev pub headText : List ℕ → ℕ → List ℕ
 headText title s = (title ++ names s) ++ bytes "\n"

@@ -1,5 +1,5 @@
--- The sheet as text (01, and level four of F-5): blocks, each a line of names and then rows of numbers in that order. One description of
--- each block serves reading and writing, with the level as a parameter. Assumes nothing.
+-- The sheet as text (01, and level four of F-5): blocks, each a line of names and then rows of numbers in that order.
+-- One description of each block serves reading and writing, with the level as a parameter. Assumes nothing.
 use mathlib.Core.Bool.{cond}
 use mathlib.Core.List.{List, [], _∷_, _++_}
 use Prim.Native.Nat.{ℕ, _+_, _*_}
@@ -40,7 +40,8 @@ head title s = seq (seq (literal title) (λ vs. literal (names s))) (λ vs. lite
 abbrev pub counted : ℕ → Column
 counted refusal = record { low = 1; limit = 33; number = refusal }
 
--- What level four has and level three has not: the title of the seconds, and how many letters have some, all of them or none.
+-- What level four has and level three has not: the title of the seconds, and how many letters have some, all of them or
+-- none.
 unfoldable pub secondsTitle : ℕ → List ℕ
 secondsTitle level = cond (eqb level 4) timesTitle []
 
@@ -70,8 +71,8 @@ leadingRow s n q = record { first = due q; second = counted 4; third = below n 5
 abbrev pub progressRow : ℕ → ℕ → ℕ → ℕ → Row
 progressRow s q k p = record { first = due q; second = due p; third = below 2 6; rest = below k 5; count = s + 3 }
 
--- The block of the counts; that of the seconds, of which level three has nothing; that of the leading automaton; the rows and the block
--- of the progress automata.
+-- The block of the counts; that of the seconds, of which level three has nothing; that of the leading automaton; the
+-- rows and the block of the progress automata.
 abbrev pub countsFormat : Format
 countsFormat = seq (literal countsTitle) (λ vs. row countsRow)
 

@@ -1,6 +1,6 @@
--- Reading the text of an automaton, for any bytes. A text is read from left to right, so that what is refused first is refused at the
--- smallest place: once with no limit on targets and accepting states, which finds how many states there are, and then with that limit.
--- Assumes nothing.
+-- Reading the text of an automaton, for any bytes. A text is read from left to right, so that what is refused first is
+-- refused at the smallest place: once with no limit on targets and accepting states, which finds how many states there
+-- are, and then with that limit. Assumes nothing.
 use mathlib.Core.Bool.{Bool, false, cond, not, _||_, _&&_}
 use mathlib.Core.List.{List, [], _∷_}
 use Prim.Native.Nat.{ℕ, _+_, _*_, _-_, _/_, _%_}
@@ -19,12 +19,13 @@ use Rattle.format.specs.Rows.{due, below}
 use Rattle.format.specs.Lines.{labelled, repeated, closing}
 use Rattle.buchi_import.specs.Text.{startLine}
 
--- The number i in its turn, which runs below a limit: another is 12, and the limit itself, where it is due, has a refusal of its own.
+-- The number i in its turn, which runs below a limit: another is 12, and the limit itself, where it is due, has a
+-- refusal of its own.
 abbrev pub turn : ℕ → ℕ → ℕ → ℕ → Column
 turn limit number i v = cond (eqb i limit && eqb v limit) (record { low = 0; limit = 0; number = number }) (due i)
 
--- What is due after m transitions, c of them of state 0, where the letter a stands. Where all are of state 0: its next one, m, or the
--- first one of state 1. Else the one that comes in its turn, c to each state.
+-- What is due after m transitions, c of them of state 0, where the letter a stands. Where all are of state 0: its next
+-- one, m, or the first one of state 1. Else the one that comes in its turn, c to each state.
 abbrev pub dueLetter : ℕ → ℕ → ℕ → ℕ
 dueLetter m c a = cond (eqb c m) (cond (eqb a 0) 0 m) (m % c)
 
@@ -39,7 +40,9 @@ abbrev pub fromState : ℕ → ℕ → ℕ → ℕ → Format
 fromState limit m c a = seq (labelled (bytes "[") (turn 16 3 (dueState m c a)) (code "]")) (λ vs. target limit)
 
 unfoldable pub transition : ℕ → ℕ → ℕ → Format
-transition limit m c = seq (labelled (bytes "s") (λ a. turn 32 2 (dueLetter m c a) a) (code ",")) (λ vs. fromState limit m c (getD vs 0 0))
+transition limit m c =
+    seq (labelled (bytes "s") (λ a. turn 32 2 (dueLetter m c a) a) (code ","))
+    (λ vs. fromState limit m c (getD vs 0 0))
 
 -- Of m transitions with the numbers vs, three each, those of state 0.
 abbrev pub ofStart : ℕ → List ℕ → ℕ
@@ -88,7 +91,8 @@ whole moves = not (eqb (moveCount moves) 0) && eqb (moveCount moves % lettersIn 
 abbrev pub moved : ℕ → List ℕ → Result Found → Result Numbers
 moved limit t (refused r) = refused r
 moved limit t (given w) =
-    cond (whole (w .values)) (ended t (w .values) (repeated First t (code "[") (acceptingStates limit) (w .next))) (refusedAt 11 First (w .next))
+    cond (whole (w .values)) (ended t (w .values) (repeated First t (code "[") (acceptingStates limit) (w .next)))
+    (refusedAt 11 First (w .next))
 
 -- After the line of the start, the transitions.
 abbrev pub started : ℕ → List ℕ → Result Found → Result Numbers
@@ -99,7 +103,8 @@ started limit t (given w) = moved limit t (repeated First t (code "s") (transiti
 unfoldable pub numbersBelow : ℕ → List ℕ → Result Numbers
 numbersBelow limit t = started limit t (reading First t (literal startLine) 0)
 
--- A number has at most three digits, so that at first no state is refused; then those that are not below n are, the first of them.
+-- A number has at most three digits, so that at first no state is refused; then those that are not below n are, the
+-- first of them.
 abbrev pub again : List ℕ → Result Numbers → Result Numbers
 again t (given w) = numbersBelow (statesIn (w .moves)) t
 again t (refused r) = refused r

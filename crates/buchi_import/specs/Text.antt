@@ -1,5 +1,5 @@
--- A deterministic Büchi automaton as text (02): the line of the start, a line for each transition by state, then letter, and a line for
--- each accepting state, rising. Assumes nothing.
+-- A deterministic Büchi automaton as text (02): the line of the start, a line for each transition by state, then
+-- letter, and a line for each accepting state, rising. Assumes nothing.
 use mathlib.Core.Path.{_≡_}
 use mathlib.Core.Bool.{true, cond}
 use mathlib.Core.List.{List, [], _++_}
@@ -16,7 +16,9 @@ startLine = bytes "[0]\n"
 
 -- By the letter a state q leads to r.
 abbrev pub transitionLine : ℕ → ℕ → ℕ → List ℕ
-transitionLine a q r = (bytes "s" ++ field a (code ",")) ++ (bytes "[" ++ field q (code "]")) ++ (bytes "->[" ++ field r (code "]")) ++ bytes "\n"
+transitionLine a q r =
+    (bytes "s" ++ field a (code ",")) ++ (bytes "[" ++ field q (code "]")) ++ (bytes "->[" ++ field r (code "]"))
+    ++ bytes "\n"
 
 -- An accepting state.
 abbrev pub acceptingLine : ℕ → List ℕ

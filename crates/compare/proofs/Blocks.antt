@@ -1,6 +1,6 @@
 -- The blocks of what the comparison prints, out of the texts that they are stored by. Assumes nothing.
 use mathlib.Core.Path.{_≡_, ap, sym, subst}
-use mathlib.Core.List.{List, _++_, append-assoc}
+use mathlib.Core.List.{List, _++_}
 use Prim.Native.Nat.{ℕ, _+_, _≤_, _<_}
 use native.Mathlib.Omega.{arith}
 use lib.ListN.{length, take}
@@ -11,17 +11,11 @@ use Rattle.inclusion.specs.declared.Outcome.{Outcome}
 use Rattle.inclusion.specs.declared.Outcome.the-variants.{Absent, Found, Refused}
 use Rattle.numbers.specs.Digits.{field}
 use Rattle.numbers.specs.Storing.{Stored}
-use Rattle.numbers.proofs.Stores.{stored-then, stored-as}
+use Rattle.numbers.proofs.Stores.{stored-then}
 use Rattle.lasso_text.specs.Text.{lassoText}
 use Rattle.console.specs.Printed.{Shows, refusalText}
 use Rattle.console.proofs.Printed.{shows-as, field-few, stored-shows}
 use Rattle.compare.specs.Text.{verdictTitle, contained, missing, verdictBlock, standingTitle, standingLine, standingBlock, comparisonText, Lies}
-
-pub five : (a b c d e : List ℕ) → (((a ++ b) ++ c) ++ d) ++ e ≡ a ++ b ++ c ++ d ++ e
-five a b c d e = simp append-assoc
-
-pub three : (a b c : List ℕ) → (a ++ b) ++ c ≡ a ++ b ++ c
-three a b c = simp append-assoc
 
 -- the first block, field by field
 pub verdict-stored : {old o₁ o₂ o₃ o₄ new : List ℕ} {at p₁ p₂ p₃ p₄ r : ℕ} (verdict : List ℕ) (z : Comparison) → length verdict ≤ 10
@@ -30,7 +24,7 @@ pub verdict-stored : {old o₁ o₂ o₃ o₄ new : List ℕ} {at p₁ p₂ p₃
     → Stored o₃ p₃ (field (z .prefix) 32) o₄ p₄ → Stored o₄ p₄ (field (z .period) 10) new r
     → Stored old at (verdictBlock verdict z) new r × (r ≤ at + 102)
 verdict-stored verdict z l h k m a b c d e = (
-  stored-as (five verdictTitle verdict (field (z .reached) 32) (field (z .prefix) 32) (field (z .period) 10)) (stored-then _ _ (stored-then _ _ (stored-then _ _ (stored-then _ _ a b) c) d) e),
+  (stored-then _ _ (stored-then _ _ (stored-then _ _ (stored-then _ _ a b) c) d) e),
   omega (arith, a .next, b .next, c .next, d .next, e .next, field-few (z .reached) 32 h, field-few (z .prefix) 32 k, field-few (z .period) 10 m),
 )
 
@@ -42,7 +36,7 @@ line-stored x h k a b = (stored-then _ _ a b, omega (arith, a .next, b .next, fi
 pub standing-stored : {old o₁ o₂ new : List ℕ} {at p₁ p₂ r : ℕ} (z : Comparison) → Stored old at standingTitle o₁ p₁ → Stored o₁ p₁ (standingLine (z .first)) o₂ p₂ × (p₂ ≤ p₁ + 42)
     → Stored o₂ p₂ (standingLine (z .second)) new r × (r ≤ p₂ + 42) → Stored old at (standingBlock z) new r × (r ≤ at + 95)
 standing-stored z a b c =
-    (stored-as (three standingTitle (standingLine (z .first)) (standingLine (z .second))) (stored-then _ _ (stored-then _ _ a (b .0)) (c .0)), omega (arith, a .next, b .1, c .1))
+    ((stored-then _ _ (stored-then _ _ a (b .0)) (c .0)), omega (arith, a .next, b .1, c .1))
 
 -- what lies within the slices, of an answer that is known
 pub lies-found : {answer : Outcome} {z : Comparison} (o p : ℕ) → answer ≡ Found z → Lies answer o p → (z .prefix ≤ o) × (z .period ≤ p)
@@ -60,7 +54,7 @@ pub found-shown : {answer : Outcome} {z : Comparison} {old o₁ o₂ new : List 
     → Stored o₁ q₁ (lassoText (take (z .prefix) o) (take (z .period) p)) o₂ q₂ → Stored o₂ q₂ (standingBlock z) new r × (r ≤ q₂ + 95) → Shows (comparisonText answer o p) old new r
 found-shown {z = z} o p e h k a b c =
     let show = lassoText (take (z .prefix) o) (take (z .period) p) in
-    let s = stored-as (three (verdictBlock missing z) show (standingBlock z)) (stored-then _ (standingBlock z) (stored-then (verdictBlock missing z) show (a .0) b) (c .0)) in
+    let s = (stored-then _ (standingBlock z) (stored-then (verdictBlock missing z) show (a .0) b) (c .0)) in
     shows-as (ap (λ (x : Outcome). comparisonText x o p) (sym e)) (stored-shows {room = 237776} s (omega (arith, a .1, b .next, c .1)) h)
 
 pub refused-shown : {answer : Outcome} {x : Refusal} {old new : List ℕ} {r : ℕ} (o p : List ℕ) → answer ≡ Refused x → Shows (refusalText x) old new r

@@ -1,7 +1,7 @@
 -- What is said on standard error, out of the texts that it is stored by. Assumes nothing.
 use mathlib.Core.Path.{_≡_, refl, ap, sym, subst, _∙_}
 use mathlib.Core.Bool.{Bool, true, false, cond}
-use mathlib.Core.List.{List, [], _++_, append-assoc}
+use mathlib.Core.List.{List, [], _++_}
 use Prim.Native.Nat.{ℕ, _+_, _*_, _≤_, _<_}
 use native.Mathlib.Omega.{arith}
 use lib.Dec.{eqb}
@@ -9,7 +9,6 @@ use lib.ListN.{length, getD, take}
 use borrow.Author.Tests.{eq-eqb, ne-eqb}
 use Rattle.slices.specs.declared.Refusal.{Refusal}
 use Rattle.slices.specs.Tables.{rows}
-use Rattle.slices.proofs.Filling.{written-none}
 use Rattle.slices.specs.Texts.{bytes}
 use Rattle.numbers.specs.Digits.{field}
 use Rattle.numbers.specs.Storing.{Stored}
@@ -20,9 +19,8 @@ use Rattle.inclusion.specs.declared.Outcome.{Outcome}
 use Rattle.inclusion.specs.declared.Outcome.the-variants.{Absent, Found, Refused}
 use Rattle.console.specs.Printed.{Shows}
 use Rattle.wording.specs.Words.{File, refusalWords}
-use Rattle.console.proofs.Printed.{field-few, shows-as}
+use Rattle.console.proofs.Printed.{field-few, shows-none, shows-as}
 use Rattle.compare.specs.Said.{ending, scenesOf, sceneLine, standingWords, namesText, missingWords, outcomeWords, askedWords, outcomeSaid}
-use Rattle.compare.proofs.Blocks.{five}
 
 -- the byte after a scene
 pub ends-line : (m i : ℕ) → i + 1 ≡ m → 10 ≡ ending m i
@@ -59,7 +57,7 @@ pub stand-stored : {old o₁ o₂ o₃ o₄ new : List ℕ} {at p₁ p₂ p₃ p
     → Stored old at name o₁ p₁ → Stored o₁ p₁ (bytes " waits at place ") o₂ p₂ → Stored o₂ p₂ (field (x .waits) 32) o₃ p₃ → Stored o₃ p₃ (bytes "and ends at loop place ") o₄ p₄
     → Stored o₄ p₄ (field (x .ends) 10) new r → Stored old at (standingWords name x) new r × (r ≤ at + 4196)
 stand-stored name x l h k a b c d e = (
-  stored-as (five name (bytes " waits at place ") (field (x .waits) 32) (bytes "and ends at loop place ") (field (x .ends) 10)) (stored-then _ _ (stored-then _ _ (stored-then _ _ (stored-then _ _ a b) c) d) e),
+  (stored-then _ _ (stored-then _ _ (stored-then _ _ (stored-then _ _ a b) c) d) e),
   omega (arith, a .next, b .next, c .next, d .next, e .next, field-few (x .waits) 32 h, field-few (x .ends) 10 k),
 )
 
@@ -68,7 +66,7 @@ pub names-stored : {old o₁ o₂ o₃ o₄ new : List ℕ} {p₁ p₂ p₃ p₄
     → Stored old 0 lead o₁ p₁ → Stored o₁ p₁ one o₂ p₂ → Stored o₂ p₂ (bytes " and rejected by ") o₃ p₃ → Stored o₃ p₃ two o₄ p₄ → Stored o₄ p₄ close new r
     → Stored old 0 (namesText lead one two close) new r × (r ≤ 8500)
 names-stored lead one two close h k l m a b c d e = (
-  stored-as (five lead one (bytes " and rejected by ") two close) (stored-then _ _ (stored-then _ _ (stored-then _ _ (stored-then _ _ a b) c) d) e),
+  (stored-then _ _ (stored-then _ _ (stored-then _ _ (stored-then _ _ a b) c) d) e),
   omega (arith, a .next, b .next, c .next, d .next, e .next),
 )
 
@@ -79,18 +77,14 @@ pub missing-stored : {old o₁ o₂ o₃ o₄ new : List ℕ} {p₁ p₂ p₃ p�
     → Stored o₃ p₃ (standingWords one (z .first)) o₄ p₄ × (p₄ ≤ p₃ + 4196) → Stored o₄ p₄ (standingWords two (z .second)) new r × (r ≤ p₄ + 4196)
     → Stored old 0 (missingWords one two z u v) new r × (r ≤ 196608)
 missing-stored one two z u v a b c d e = (
-  stored-as (five (namesText (bytes "missing: this show closes in both sheets, is accepted by ") one two (bytes ":\n")) (bytes "opening: " ++ sceneLine u) (bytes "loop: " ++ sceneLine v) (standingWords one (z .first)) (standingWords two (z .second)))
-      (stored-then _ _ (stored-then _ _ (stored-then _ _ (stored-then _ _ (a .0) (b .0)) (c .0)) (d .0)) (e .0)),
+  (stored-then _ _ (stored-then _ _ (stored-then _ _ (stored-then _ _ (a .0) (b .0)) (c .0)) (d .0)) (e .0)),
   omega (arith, a .1, b .1, c .1, d .1, e .1),
 )
 
 -- what was decided, where it is asked for
-pub nothing-shown : (old : List ℕ) → Shows [] old old 0
-nothing-shown old = record { says = refl; fits = omega arith; cells = written-none old }
-
 module _ (explain : Bool) (answer : Outcome) (one two o p : List ℕ) where
   pub unasked-shown : (old : List ℕ) → explain ≡ false → Shows (askedWords explain one two o p answer) old old 0
-  unasked-shown old e = shows-as (ap (λ (b : Bool). askedWords b one two o p answer) (sym e)) (nothing-shown old)
+  unasked-shown old e = shows-as (ap (λ (b : Bool). askedWords b one two o p answer) (sym e)) (shows-none old)
 
   pub asked-shown : {old new : List ℕ} {n : ℕ} (r : Outcome) → explain ≡ true → answer ≡ r → Shows (outcomeWords one two o p r) old new n → Shows (askedWords explain one two o p answer) old new n
   asked-shown r e d s = shows-as (λ i. askedWords (sym e i) one two o p (sym d i)) s

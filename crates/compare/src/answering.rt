@@ -38,7 +38,8 @@ fn put_message(
         (length (now period) ≤ 4096) × (length (now one) ≤ 4096) × (length (now two) ≤ 4096) ×
         (196608 ≤ length (now out)) ⌝ }
     ensures { λ n. ⌜ Shows
-        (outcomeSaid explain (fileIn any (now (one .entry)) (now (first .entry))) (fileIn any (now (two .entry)) (now (second .entry))) (now (opening .entry)) (now (period .entry)) answer)
+        (outcomeSaid explain (fileIn any (now (one .entry)) (now (first .entry)))
+        (fileIn any (now (two .entry)) (now (second .entry))) (now (opening .entry)) (now (period .entry)) answer)
         (now (out .entry)) (now (out .exit)) n ⌝ }
 {
     match answer {

@@ -1,4 +1,5 @@
-// What the comparison program decides of the bytes that came of two files, sheets in any form, with the room that it has.
+// What the comparison program decides of the bytes that came of two files, sheets in any form, with the room that it
+// has.
 use console::Length;
 use inclusion::Outcome;
 use sheet_forms::SHEET;

@@ -1,13 +1,13 @@
 -- Texts made in a lent slice, one after the other. Assumes nothing.
-use mathlib.Core.Path.{_≡_, ap, sym, subst, _∙_}
-use mathlib.Core.List.{List, _++_, append-assoc}
+use mathlib.Core.Path.{_≡_, refl, ap, sym, subst, _∙_}
+use mathlib.Core.List.{List, [], _++_, append-assoc}
 use Prim.Native.Nat.{ℕ, _+_, _-_, _≤_, _<_}
 use native.Mathlib.Omega.{arith}
 use lib.ListN.{length, take, drop, length-append}
 use Rattle.slices.specs.declared.Part.{Part}
 use Rattle.slices.specs.declared.Part.the-variants.{First, Second, Opening, Loop, Out, Work, Cursor, Seconds}
 use Rattle.slices.specs.declared.Refusal.{Refusal}
-use Rattle.slices.proofs.Filling.{Begun, begun-first, begun-more, lent-length}
+use Rattle.slices.proofs.Filling.{Begun, begun-first, begun-more, lent-length, written-none}
 use Rattle.numbers.specs.Digits.{field}
 use Rattle.numbers.specs.Storing.{Stored}
 use Rattle.numbers.proofs.Digits.{length-field, digits-few}
@@ -16,6 +16,10 @@ use Rattle.console.specs.Printed.{partField, refusalTitle, refusalText, 
 
 pub shows-begun : {d old out : List ℕ} {n : ℕ} → Shows d old out n → Begun d old out
 shows-begun {d} s = begun-first (s .cells) (omega (arith, s .says, s .fits))
+
+-- nothing is said, and nothing changed
+pub shows-none : (old : List ℕ) → Shows [] old old 0
+shows-none old = record { says = refl; fits = omega arith; cells = written-none old }
 
 pub shows-as : {d e old out : List ℕ} {n : ℕ} → d ≡ e → Shows d old out n → Shows e old out n
 shows-as {old = old} {out = out} {n = n} p s = subst (λ (x : List ℕ). Shows x old out n) p s

@@ -1,6 +1,6 @@
--- A format is data: fixed bytes, and numbers each with the byte that ends it, where the column that judges a number, and what
--- follows it, may depend on it.
--- It is read from left to right, so that what is refused first is refused at the smallest place. Assumes nothing.
+-- A format is data: fixed bytes, and numbers each with the byte that ends it, where the column that judges a number,
+-- and what follows it, may depend on it. It is read from left to right, so that what is refused first is refused at the
+-- smallest place. Assumes nothing.
 use mathlib.Core.Path.{_≡_}
 use mathlib.Core.Bool.{Bool, true, cond, _&&_}
 use mathlib.Core.List.{List, [], _∷_, _++_}
@@ -43,13 +43,15 @@ stands t c at = ltb at (length t) && eqb (getD t at 0) c
 abbrev pub judged : Part → List ℕ → (ℕ → Column) → ℕ → ℕ → Number → (ℕ → ℕ → Result Found) → Result Found
 judged part t c end at (Refused r) go = refused r
 judged part t c end at (Good v next) go =
-    cond (outside (c v .low) (c v .limit) v) (refusedAt (c v .number) part at) (cond (stands t end next) (go v (next + 1)) (refusedAt 11 part next))
+    cond (outside (c v .low) (c v .limit) v) (refusedAt (c v .number) part at)
+    (cond (stands t end next) (go v (next + 1)) (refusedAt 11 part next))
 
 -- Reading a text from a place on; what is no text of the format is 11, at the byte that departs from it.
 unfoldable pub reading : Part → List ℕ → Format → ℕ → Result Found
 reading part t done at = given (record { values = []; next = at })
 reading part t (byte c f) at = cond (stands t c at) (reading part t f (at + 1)) (refusedAt 11 part at)
-reading part t (num c end f) at = judged part t c end at (numberAt part t at) (λ v next. after (v ∷ []) (reading part t (f v) next))
+reading part t (num c end f) at =
+    judged part t c end at (numberAt part t at) (λ v next. after (v ∷ []) (reading part t (f v) next))
 
 -- The text of some numbers.
 unfoldable pub printed : Format → List ℕ → List ℕ

@@ -1,4 +1,5 @@
--- Repetition without a known count: steps as long as a byte stands where the next one begins; so lines of a word and a number. Assumes nothing.
+-- Repetition without a known count: steps as long as a byte stands where the next one begins; so lines of a word and a
+-- number. Assumes nothing.
 use mathlib.Core.Path.{_≡_}
 use mathlib.Core.Bool.{Bool, true, cond, not}
 use mathlib.Core.List.{List}
@@ -40,8 +41,8 @@ lines word c m = each m (λ i. labelled word (λ v. c) (code "\n"))
 abbrev pub linesAt : Part → List ℕ → List ℕ → Column → ℕ → Result Found
 linesAt part t word c at = repeated part t (getD word 0 0) (lines word c) at
 
--- After its last lines, whose numbers are turned into an answer, a text ends: a byte there is 11. A text that has none of these lines is
--- refused, at its length, with a number of its own.
+-- After its last lines, whose numbers are turned into an answer, a text ends: a byte there is 11. A text that has none
+-- of these lines is refused, at its length, with a number of its own.
 abbrev pub closing : {A : Type 0} → Part → List ℕ → ℕ → (List ℕ → A) → Result Found → Result A
 closing part t number f (refused r) = refused r
 closing part t number f (given w) =
@@ -61,7 +62,8 @@ abbrev pub linesSay : Lines → Result Extent
 linesSay (Counted n next) = given (record { count = n; next = next })
 linesSay (Refused r) = refused r
 
--- The numbers of the lines are at the start of a lent slice, each where there is room for it; a refusal leaves its cells open.
+-- The numbers of the lines are at the start of a lent slice, each where there is room for it; a refusal leaves its
+-- cells open.
 pub record LinesRead (x : Result Found) (old new : List ℕ) (r : Lines) : Type 0 where
   pub says : linesSay r ≡ extent x
   pub same : length new ≡ length old

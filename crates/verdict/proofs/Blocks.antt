@@ -1,14 +1,14 @@
 -- What is printed, out of the texts that it is stored by. Assumes nothing.
 use mathlib.Core.Path.{_≡_, refl, ap, sym}
 use mathlib.Core.Bool.{Bool, true, false}
-use mathlib.Core.List.{List, _++_, append-assoc}
+use mathlib.Core.List.{List, _++_}
 use Prim.Native.Nat.{ℕ, _≤_}
 use lib.ListN.{length}
 use Rattle.slices.specs.declared.Refusal.{Refusal}
 use Rattle.fdfa.specs.Acceptance.{Verdict}
 use Rattle.numbers.specs.Digits.{field}
 use Rattle.numbers.specs.Storing.{Stored}
-use Rattle.numbers.proofs.Stores.{stored-then, stored-as}
+use Rattle.numbers.proofs.Stores.{stored-then}
 use Rattle.membership.specs.declared.Judgement.{Judgement}
 use Rattle.membership.specs.declared.Judgement.the-variants as judgement
 use Rattle.membership.specs.Verdict.{saysOf}
@@ -20,15 +20,12 @@ pub word-long : (accepted : Bool) → length (word accepted) ≡ 9
 word-long true = refl
 word-long false = refl
 
-six : (a b c d e f : List ℕ) → ((((a ++ b) ++ c) ++ d) ++ e) ++ f ≡ a ++ b ++ c ++ d ++ e ++ f
-six a b c d e f = simp append-assoc
-
 -- the block, field by field
 pub block-stored : {old o₁ o₂ o₃ o₄ o₅ new : List ℕ} {p₁ p₂ p₃ p₄ p₅ r : ℕ} (x : Verdict) → Stored old 0 title o₁ p₁ → Stored o₁ p₁ (word (x .accepted)) o₂ p₂
     → Stored o₂ p₂ (field (x .i) 32) o₃ p₃ → Stored o₃ p₃ (field (x .j) 32) o₄ p₄ → Stored o₄ p₄ (field (x .state) 32) o₅ p₅ → Stored o₅ p₅ (field (x .end) 10) new r
     → Stored old 0 (verdictBlock x) new r
 block-stored x a b c d e f =
-    stored-as (six title (word (x .accepted)) (field (x .i) 32) (field (x .j) 32) (field (x .state) 32) (field (x .end) 10)) (stored-then _ _ (stored-then _ _ (stored-then _ _ (stored-then _ _ (stored-then _ _ a b) c) d) e) f)
+    (stored-then _ _ (stored-then _ _ (stored-then _ _ (stored-then _ _ (stored-then _ _ a b) c) d) e) f)
 
 -- all of the text, answer by answer
 pub given-shown : {answer : Judgement} {accepted : Bool} {i j state end : ℕ} {old new : List ℕ} {r : ℕ} → answer ≡ judgement.Given accepted i j state end → 128 ≤ length old

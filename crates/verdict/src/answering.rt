@@ -36,7 +36,8 @@ fn put_message(
 ) -> usize
     requires { ⌜ (length (now one) ≤ 4096) × (length (now two) ≤ 4096) × (4608 ≤ length (now out)) ⌝ }
     ensures { λ n. ⌜ Shows
-        (saidOf explain (sheetFile any (now (one .entry)) (now (sheet .entry))) (showFile (now (two .entry)) (now (show .entry))) (saysOf answer))
+        (saidOf explain (sheetFile any (now (one .entry)) (now (sheet .entry)))
+        (showFile (now (two .entry)) (now (show .entry))) (saysOf answer))
         (now (out .entry)) (now (out .exit)) n ⌝ }
 {
     match answer {

@@ -73,7 +73,8 @@ pub fn put_judged(
 ) -> usize
     requires { ⌜ (length (now name) ≤ 4096) × (4608 ≤ length (now out)) ⌝ }
     ensures { λ r. ⌜ Shows
-        (cond explain (verdictWords (now (name .entry)) (record { accepted = accepted; i = i; j = j; state = state; end = end })) [])
+        (cond explain
+        (verdictWords (now (name .entry)) (record { accepted = accepted; i = i; j = j; state = state; end = end })) [])
         (now (out .entry)) (now (out .exit)) r ⌝ }
 {
     if !explain {

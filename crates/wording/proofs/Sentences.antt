@@ -9,6 +9,7 @@ use lib.Dec.{eqb}
 use lib.ListN.{length}
 use borrow.Author.Tests.{eq-eqb, ne-eqb, eqb-true}
 use Rattle.slices.specs.Texts.{bytes}
+use Rattle.slices.proofs.Tests.{and-left, and-right}
 use Rattle.numbers.specs.Storing.{Stored}
 use Rattle.numbers.proofs.Stores.{stored-as}
 use Rattle.wording.specs.Words.{Row, row, sentences, other, lookUp, sentence}
@@ -104,15 +105,11 @@ all : (ℕ → Bool) → List ℕ → Bool
 all f [] = true
 all f (x ∷ xs) = f x && all f xs
 
-both : (x y : Bool) → x && y ≡ true → (x ≡ true) × (y ≡ true)
-both true y e = (refl, e)
-both false y e = absurd (true≢false (sym e))
-
 all-member : (f : ℕ → Bool) (xs : List ℕ) → all f xs ≡ true → {n : ℕ} → List·Memᴰ n xs → f n ≡ true
 unfolding all
 all-member f [] e m = absurd (List·Memᴰ·not-nil m)
 all-member f (x ∷ xs) e {n} m =
-    ⊎-elim (λ d. ap f d ∙ both (f x) (all f xs) e .0) (λ k. all-member f xs (both (f x) (all f xs) e .1) k) (List·Memᴰ·cases-cons m)
+    ⊎-elim (λ d. ap f d ∙ and-left (f x) (all f xs) e) (λ k. all-member f xs (and-right (f x) (all f xs) e) k) (List·Memᴰ·cases-cons m)
 
 same : List ℕ → List ℕ → Bool
 same [] [] = true

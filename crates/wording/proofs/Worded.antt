@@ -1,7 +1,7 @@
 -- A refusal in words, out of the texts that it is stored by. Assumes nothing.
 use mathlib.Core.Path.{_≡_, refl, ap, sym, _∙_}
 use mathlib.Core.Bool.{Bool, true, false, cond, not, _||_}
-use mathlib.Core.List.{List, _++_, append-assoc}
+use mathlib.Core.List.{List, _++_}
 use Prim.Native.Nat.{ℕ, _+_, _≤_, _<_}
 use native.Mathlib.Omega.{arith}
 use lib.Dec.{eqb, ltb}
@@ -22,7 +22,7 @@ pub line-stored : {old o₁ o₂ new : List ℕ} {at p₁ p₂ r : ℕ} (q : Pos
     → Stored old at (bytes ":") o₁ p₁ → Stored o₁ p₁ (field (q .line) 58) o₂ p₂ → Stored o₂ p₂ (field (q .column) 58) new r
     → Stored old at (linePlace q) new r × (r ≤ at + 43)
 line-stored q h k a b c = (
-  stored-as (append-assoc (bytes ":") (field (q .line) 58) (field (q .column) 58)) (stored-then _ _ (stored-then _ _ a b) c),
+  stored-then _ _ (stored-then _ _ a b) c,
   omega (arith, a .next, b .next, c .next, field-few (q .line) 58 h, field-few (q .column) 58 k),
 )
 
@@ -87,13 +87,10 @@ module _ {old new : List ℕ} {r k : ℕ} (program : List ℕ) (one two : File) 
   named-program e d s = as-named false false (ne-eqb k 1 e) (ne-eqb k 2 d) s
 
 -- the reason
-five : (a b c d e : List ℕ) → (((a ++ b) ++ c) ++ d) ++ e ≡ a ++ b ++ c ++ d ++ e
-five a b c d e = simp append-assoc
-
 pub reason-stored : {old o₁ o₂ o₃ o₄ new : List ℕ} {at p₁ p₂ p₃ p₄ r w : ℕ} (n : ℕ) → w ≡ n → n < 256 → Stored old at (bytes " refusal ") o₁ p₁ → Stored o₁ p₁ (field w 58) o₂ p₂
     → Stored o₂ p₂ (bytes " ") o₃ p₃ → Stored o₃ p₃ (sentence n) o₄ p₄ × (p₄ ≤ p₃ + 80) → Stored o₄ p₄ (bytes "\n") new r → Stored old at (reason n) new r × (r ≤ at + 112)
 reason-stored {w = w} n i h a b c d e = (
-  stored-as ((λ k. (((bytes " refusal " ++ field (i k) 58) ++ bytes " ") ++ sentence n) ++ bytes "\n") ∙ five (bytes " refusal ") (field n 58) (bytes " ") (sentence n) (bytes "\n"))
+  stored-as (λ k. bytes " refusal " ++ field (i k) 58 ++ bytes " " ++ sentence n ++ bytes "\n")
       (stored-then _ _ (stored-then _ _ (stored-then _ _ (stored-then _ _ a b) c) (d .0)) e),
   omega (arith, a .next, b .next, c .next, d .1, e .next, field-few w 58 (omega arith)),
 )

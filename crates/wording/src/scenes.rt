@@ -88,7 +88,9 @@ pub fn show_words(
     requires { ⌜ (length (now program) ≤ 4096) × (length (now one) ≤ 4096) × (length (now two) ≤ 4096) ×
         (openings ≤ 4096) × (4352 ≤ length (now out)) ⌝ }
     ensures { λ n. ⌜ Shows
-        (showWords (now (program .entry)) (record { name = now (one .entry); held = now (first .entry); lined = lined }) (record { name = now (two .entry); held = now (show .entry); lined = true }) openings r)
+        (showWords (now (program .entry))
+        (record { name = now (one .entry); held = now (first .entry); lined = lined })
+        (record { name = now (two .entry); held = now (show .entry); lined = true }) openings r)
         (now (out .entry)) (now (out .exit)) n ⌝ }
 {
     if is_scene(r) {

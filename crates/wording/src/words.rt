@@ -249,7 +249,9 @@ fn put_culprit(
 ) -> usize
     requires { ⌜ (length (now program) ≤ 4096) × (length (now one) ≤ 4096) × (length (now two) ≤ 4096) ⌝ }
     ensures { λ n. ⌜ Stored (now (out .entry)) 0
-        (culprit (now (program .entry)) (record { name = now (one .entry); held = now (first .entry); lined = lined }) (record { name = now (two .entry); held = now (second .entry); lined = lined2 }) r)
+        (culprit (now (program .entry))
+        (record { name = now (one .entry); held = now (first .entry); lined = lined })
+        (record { name = now (two .entry); held = now (second .entry); lined = lined2 }) r)
         (now (out .exit)) n × (n ≤ 4139) ⌝ }
 {
     let part = r.part;
@@ -278,7 +280,9 @@ pub fn refusal_words(
     requires { ⌜ (length (now program) ≤ 4096) × (length (now one) ≤ 4096) × (length (now two) ≤ 4096) ×
         (4352 ≤ length (now out)) ⌝ }
     ensures { λ n. ⌜ Shows
-        (refusalWords (now (program .entry)) (record { name = now (one .entry); held = now (first .entry); lined = lined }) (record { name = now (two .entry); held = now (second .entry); lined = lined2 }) r)
+        (refusalWords (now (program .entry))
+        (record { name = now (one .entry); held = now (first .entry); lined = lined })
+        (record { name = now (two .entry); held = now (second .entry); lined = lined2 }) r)
         (now (out .entry)) (now (out .exit)) n ⌝ }
 {
     let at = put_culprit(program, one, first, lined, two, second, lined2, r, out);

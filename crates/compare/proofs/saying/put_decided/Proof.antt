@@ -7,9 +7,9 @@ use lib.Seq.{length-take-le}
 use denote.Ref.{now}
 use borrow.Author.Tests.{not-true, not-false}
 use Rattle.inclusion.specs.declared.Outcome.the-variants.{Absent, Found, Refused}
-use Rattle.console.proofs.Printed.{stored-shows}
+use Rattle.console.proofs.Printed.{shows-none, stored-shows}
 use Rattle.compare.proofs.Blocks.{lies-found}
-use Rattle.compare.proofs.Spoken.{nothing-shown, unasked-shown, asked-shown}
+use Rattle.compare.proofs.Spoken.{unasked-shown, asked-shown}
 use borrow.Author.Needs.{needs}
 use Rattle.compare.proofs.saying.put_decided.Statement.{statement}
 use Rattle.compare.proofs.saying.put_decided.Tie as tie
@@ -84,7 +84,7 @@ returns-4 : tie.Need-returns-4
 returns-4 c =
     let e = c .before .before in
     let s = begin e in
-    asked-shown (s .args .explain) (s .args .answer) (now (s .args .one)) (now (s .args .two)) (now (s .args .opening)) (now (s .args .period)) (Refused _) (not-false _ (e .if1 .left)) (c .enum-told2 .given .1) (nothing-shown _)
+    asked-shown (s .args .explain) (s .args .answer) (now (s .args .one)) (now (s .args .two)) (now (s .args .opening)) (now (s .args .period)) (Refused _) (not-false _ (e .if1 .left)) (c .enum-told2 .given .1) (shows-none _)
 
 pub put-decided-spec : {M : Type 1} → statement M
 put-decided-spec =
