@@ -75,6 +75,7 @@ typedef char fdfa_size_t_has_64_bits[sizeof(size_t) == 8 ? 1 : -1];
 #define FDFA_SHOW_READ_BYTES 24
 #define FDFA_SHOW_WRITE_BYTES 24
 #define FDFA_IMPORT_BYTES 24
+#define FDFA_DURATIONS_BYTES 24
 
 /* The part that a refusal concerns; a cursor is in FDFA_OPENING or FDFA_LOOP. */
 enum fdfa_part {
@@ -109,7 +110,8 @@ enum fdfa_refusal {
     FDFA_OUT_TOO_SHORT = 21,    /* a slice is too short; the length needed */
     FDFA_WORK_TOO_SHORT = 22,   /* there are fewer work cells than the search needs; the cells needed */
     FDFA_SHOW_TOO_LONG = 23,    /* the show found is longer than its slice; the length needed */
-    FDFA_CURSOR_OUTSIDE = 24    /* a cursor's position is not below the length of its part; the position */
+    FDFA_CURSOR_OUTSIDE = 24,   /* a cursor's position is not below the length of its part; the position */
+    FDFA_PART_TOO_LONG = 26     /* a part of a show has more than 65,536 scenes; 65,536 */
 };
 
 /* Number `index` of an answer. */
@@ -299,6 +301,21 @@ uint32_t fdfa_show_write(const uint8_t *opening, size_t opening_len,
 uint32_t fdfa_import(const uint8_t *text, size_t text_len,
                      uint8_t *out, size_t out_len,
                      uint8_t *answer, size_t answer_len);
+
+/*
+ * The running sheet of a show, to out: a line of the words `part scene seconds`; for each scene of the opening, then of
+ * the loop, a line such as `opening 3 120`; a line `opening loop`; and a line of two totals, each the sum of the
+ * seconds on that part's lines. Scene a lasts seconds[a], so scenes are below seconds_len, and with 256 cells or more
+ * every byte is one. The text has at most 1,900,594 bytes; cells of out behind it stay. The time grows with
+ * opening_len + loop_len + seconds_len. Answer: length.
+ * Refusals: 9 (opening), 8, 9 (loop), 14 (seconds; every cell is judged, that of a scene not shown too), 26 (opening,
+ * else loop), 21 (out).
+ */
+uint32_t fdfa_durations(const uint8_t *opening, size_t opening_len,
+                        const uint8_t *loop, size_t loop_len,
+                        const uint16_t *seconds, size_t seconds_len,
+                        uint8_t *out, size_t out_len,
+                        uint8_t *answer, size_t answer_len);
 
 #ifdef __cplusplus
 }

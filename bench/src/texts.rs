@@ -1,8 +1,9 @@
-//! The text of the largest sheet and of a long show, read and written.
+//! The text of the largest sheet and of a long show, read and written, and the longest running sheet.
 
 use crate::timing::Table;
-use outside::layout::{put, SHEET_READ_BYTES, SHEET_WRITE_BYTES, SHOW_READ_BYTES, SHOW_WRITE_BYTES};
+use outside::layout::{put, DURATIONS_BYTES, SHEET_READ_BYTES, SHEET_WRITE_BYTES, SHOW_READ_BYTES, SHOW_WRITE_BYTES};
 use outside::random::Random;
+use outside::running_sheet::{self, LONGEST};
 use outside::sheet::{Part, Sheet, MOST};
 use outside::{library, sheet_text, show_text};
 use std::hint::black_box;
@@ -10,6 +11,7 @@ use std::hint::black_box;
 pub fn time(table: &mut Table) {
     time_sheet(table);
     time_show(table);
+    time_running_sheet(table);
 }
 
 /// A sheet of 32 scenes, n places and k places in each loop automaton; every number has as many digits as it can.
@@ -84,4 +86,24 @@ fn time_show(table: &mut Table) {
         library::show_write((&prefix).into(), (&period).into(), out.into(), answer.as_mut_slice().into());
     };
     table.row(&format!("show text written, {bytes} bytes"), (vec![0; bytes], [0; SHOW_WRITE_BYTES]), rust, library);
+}
+
+/// Both parts as long as they may be, with 32 scenes.
+fn time_running_sheet(table: &mut Table) {
+    let mut random = Random::new(16);
+    let (prefix, period) = (random.word(LONGEST, MOST), random.word(LONGEST, MOST));
+    let seconds: Vec<u16> = (0..MOST).map(|_| random.between(1, 999) as u16).collect();
+    let bytes = running_sheet::text_of(&prefix, &period, &seconds).len();
+
+    type Written = (Vec<u8>, [u8; DURATIONS_BYTES]);
+    let rust = |(out, answer): &mut Written| {
+        let written = running_sheet::write(black_box(&prefix), black_box(&period), black_box(&seconds), out);
+        put(answer, &written.map(|length| vec![length]));
+    };
+    let library = |(out, answer): &mut Written| {
+        let answer = answer.as_mut_slice();
+        library::durations((&prefix).into(), (&period).into(), (&seconds).into(), out.into(), answer.into());
+    };
+    let lent = (vec![0; bytes], [0; DURATIONS_BYTES]);
+    table.row(&format!("running sheet written, {bytes} bytes"), lent, rust, library);
 }

@@ -19,7 +19,7 @@ stop() {
     exit 2
 }
 
-for program in compare import pack unpack verdict; do
+for program in compare durations import pack unpack verdict; do
     [ -x "$bin/$program" ] || stop "not built: $program (rt check $program)"
 done
 trap '[ -z "$top" ] || rm -rf "$top"' EXIT
@@ -133,6 +133,7 @@ sentence() {
         22) echo 'the comparison needs more work cells than there are' ;;
         23) echo 'the show found is longer than the room for it' ;;
         25) echo 'the file has more than 65,536 bytes' ;;
+        26) echo 'this part of the show has more than 65,536 scenes' ;;
     esac
 }
 

@@ -1,6 +1,6 @@
-# What the tests of compare and verdict share, sourced by both: programs that read two files, of the folder they are run in or named. The
-# caller sets $program, $one and $two, the files, and $lined, the one of them that is text always. $asked has the arguments, and $any
-# says that a sheet may come in any form.
+# What the tests of compare, verdict and durations share, sourced by each: programs that read two files, of the folder they are run in or
+# named. The caller sets $program, $one and $two, the files, and $lined, those of them that are text always. $asked has the arguments, and
+# $any says that a sheet may come in any form.
 asked=()
 any=
 
@@ -43,7 +43,7 @@ spot() {
     case $(head -c 1 "$1" 2> /dev/null | tr '\0' .) in
         l | '[') text=$any ;;
     esac
-    if [ -n "$text" ] || [ "$1" = "$lined" ]; then
+    if [ -n "$text" ] || [[ " $lined " = *" $1 "* ]]; then
         lines=$(head -c "$2" "$1" 2> /dev/null | tr -cd '\n' | wc -c)
         ended=$(head -c "$2" "$1" 2> /dev/null | head -n "$lines" | wc -c)
         echo "$1:$((lines + 1)):$(($2 - ended + 1))"
@@ -75,6 +75,13 @@ refuses() {
         *) where=$program ;;
     esac
     says "$1" "$(refusal "$2" "$3" "$4")" "$where: refusal $2: $(sentence "$2")$nl"
+}
+
+# show LINE..: the text of these lines after the names; a comma stands for the space.
+show() {
+    local line
+    printf 'part scene\n'
+    for line in "$@"; do printf '%s\n' "${line/,/ }"; done
 }
 
 # scenes PART COUNT SCENE: so many lines of that part, all of one scene.
@@ -118,10 +125,12 @@ forms_of() {
     rm seconds
 }
 
-# text_faults PART FILE: each number that a text may be refused for, at its place; FILE is the damaged one and of this part
+# text_faults PART FILE [WHOLE..]: each number that a text may be refused for, at its place; FILE is the damaged one and of this part. Only
+# faults of these whole texts, where they are named.
 text_faults() {
     local number place whole old new
     while read -r number place whole old new; do
+        [ $# -eq 2 ] || [[ " ${*:3} " = *" $whole "* ]] || continue
         old=${old//_/ } new=${new//_/ }
         old=${old//@/$nl} new=${new//@/$nl}
         [ "$new" = - ] && new=''
@@ -146,6 +155,51 @@ text_faults() {
 11 1 drawn [0] [1]
 12 17 drawn s1,[0] s3,[0]
 13 52 drawn @[1]@ @
+END
+}
+
+# show_faults FILE: what a show's text may be refused for, FILE being the show: number, place and text; _ is a space, @ a line feed, ^ a
+# carriage return
+show_faults() {
+    local number place text
+    while read -r number place text; do
+        text=${text//_/ }
+        text=${text//@/$nl}
+        printf '%s' "${text//^/$'\r'}" > "$1"
+        refuses "'$text'" "$number" second "$place"
+    done << 'END'
+8 11 part_scene@
+8 21 part_scene@opening_0@
+8 31 part_scene@opening_0@opening_1@
+11 10 part_scene
+11 10 part_scene^@loop_0^@
+11 17 part_scene@loop_0^@
+11 17 part_scene@loop_0
+11 20 part_scene@opening_0
+11 15 part_scene@loop
+11 18 part_scene@loop_0@@
+11 18 part_scene@loop_0@x
+11 18 part_scene@loop_0@waits_ends@
+11 18 part_scene@loop_0@opening_0@
+11 11 part_scene@@loop_0@
+11 0 @part_scene@loop_0@
+11 0 loop_0@
+11 0 verdict_reached_opening_loop@
+11 16 part_scene@loop_00@
+11 16 part_scene@loop_01@
+11 16 part_scene@loop_1000@
+11 16 part_scene@loop_@
+11 16 part_scene@loop__0@
+11 17 part_scene@loop_0_@
+11 11 part_scene@Loop_0@
+9 16 part_scene@loop_32@
+9 16 part_scene@loop_999@
+9 16 part_scene@loop_32
+9 19 part_scene@opening_32@
+9 19 part_scene@opening_32@loop_0
+9 24 part_scene@loop_31@loop_32@
+8 22 part_scene@opening_31@
+11 22 part_scene@loop_2@loopx
 END
 }
 

@@ -1,17 +1,19 @@
-//! The calls written a second time, from the papers alone, and what holds the static library and the programs `compare`, `verdict`, `pack`
-//! and `unpack` to them.
+//! The calls written a second time, from the papers alone, and what holds the static library and the programs `compare`, `verdict`,
+//! `durations`, `pack` and `unpack` to them.
 //!
-//! `sheet`, `verdict`, `pass`, `inclusion`, `standing`, `emptiness`, `boolean`, `cursor`, `numeral`, `sheet_text`, `show_text`, `buchi`
-//! and `buchi_text` are the independent implementation (`lent` and `text_reader` are what they share); `naive` tries all short lassos and
-//! checks `inclusion` and `emptiness`; `plain` searches in another way than both, and checks them and the library.
+//! `sheet`, `verdict`, `pass`, `inclusion`, `standing`, `emptiness`, `boolean`, `cursor`, `numeral`, `sheet_text`, `show_text`,
+//! `running_sheet`, `buchi` and `buchi_text` are the independent implementation (`lent` and `text_reader` are what they share); `naive`
+//! tries all short lassos and checks `inclusion` and `emptiness`; `plain` searches in another way than both, and checks them and the
+//! library.
 //! `stack` makes a call on a thread with a stack of a given size.
 //! `library` calls the static library; `declarations` holds what it declares to the header and to the exports' source. `export` has a row
 //! for each call, on slices that `guarded` lends; `layout` has the bytes of the answers that are due. `generate`, `mix` and `case` make
 //! sheets and cases at random, `rows` has those of the papers, `check` runs one and compares all bytes, `tally` counts them, and `crash`
 //! names the one that broke off.
 //! `by_lines` is the driver, which makes every call of the library by lines; `driver` holds it to the implementation, line by line.
-//! `printed` has what the programs `compare` and `verdict` are due to print, `said` what is due on standard error, `packing` what `pack` and
-//! `unpack` are due to print and make, and `program_runs` runs any of them on files at random.
+//! `printed` has what the programs `compare`, `verdict` and `durations` are due to print, `said` what is due on standard error, `packing`
+//! what `pack` and `unpack` are due to print and make, and `program_runs` runs any of them on files at random, some of which `random_files`
+//! makes.
 
 pub mod boolean;
 pub mod buchi;
@@ -40,7 +42,9 @@ pub mod plain;
 pub mod printed;
 pub mod program_runs;
 pub mod random;
+pub mod random_files;
 pub mod rows;
+pub mod running_sheet;
 pub mod said;
 pub mod sheet;
 pub mod sheet_text;

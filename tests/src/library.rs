@@ -150,3 +150,11 @@ pub fn show_write(prefix: Cells, period: Cells, out: CellsMut, answer: CellsMut)
 pub fn import(text: Cells, out: CellsMut, answer: CellsMut) -> u32 {
     unsafe { declared::fdfa_import(text.0, text.1, out.0, out.1, answer.0, answer.1) }
 }
+
+pub fn durations(prefix: Cells, period: Cells, seconds: Cells<u16>, out: CellsMut, answer: CellsMut) -> u32 {
+    unsafe {
+        declared::fdfa_durations(
+            prefix.0, prefix.1, period.0, period.1, seconds.0, seconds.1, out.0, out.1, answer.0, answer.1,
+        )
+    }
+}

@@ -1,10 +1,10 @@
-//! What the programs print for their files, after 01, F-1 and F-2: block by block, or the refusal.
+//! What the programs print for their files, after 01, F-1, F-2 and F-6: block by block, or the refusal.
 
 use crate::inclusion::{Inclusion, Search};
 use crate::sheet::{Part, Refusal, Sheet};
-use crate::show_text;
 use crate::standing::Standing;
 use crate::verdict::{self, Verdict};
+use crate::{running_sheet, sheet_text, show_text};
 
 /// The scenes that a program has room for in each part of a show.
 pub const SCENES: usize = 4096;
@@ -43,15 +43,42 @@ pub fn verdict(sheet: &[u8], text: &[u8]) -> String {
 }
 
 fn judged(sheet: &[u8], text: &[u8]) -> Result<Verdict, Refusal> {
-    not_too_long(Part::First, sheet)?;
-    not_too_long(Part::Second, text)?;
+    files_not_too_long(sheet, text)?;
     Sheet::read(sheet, Part::First)?;
-    let (mut prefix, mut period) = ([0; SCENES], [0; SCENES]);
-    let lengths = show_text::read(text, &mut prefix, &mut period).map_err(|refusal| match refusal.part {
+    let (prefix, period) = show(text)?;
+    verdict::verdict(sheet, &prefix, &period)
+}
+
+/// What `durations` prints for the bytes of its two files, a sheet's text and a show's.
+pub fn durations(sheet: &[u8], text: &[u8]) -> String {
+    timed(sheet, text).unwrap_or_else(refused)
+}
+
+/// A text of level three has no seconds.
+fn timed(sheet: &[u8], text: &[u8]) -> Result<String, Refusal> {
+    files_not_too_long(sheet, text)?;
+    let seconds = sheet_text::sheet_of(sheet)?.seconds;
+    let (prefix, period) = show(text)?;
+    running_sheet::judge(&prefix, &period, &seconds)?;
+    let running_sheet = running_sheet::text_of(&prefix, &period, &seconds);
+    Ok(String::from_utf8(running_sheet).expect("a running sheet is text"))
+}
+
+/// Prefix and period of the show in the second file.
+fn show(text: &[u8]) -> Result<(Vec<u8>, Vec<u8>), Refusal> {
+    let (mut prefix, mut period) = (vec![0; SCENES], vec![0; SCENES]);
+    let (before, turn) = show_text::read(text, &mut prefix, &mut period).map_err(|refusal| match refusal.part {
         Part::First => Refusal { part: Part::Second, ..refusal },
         _ => refusal,
     })?;
-    verdict::verdict(sheet, &prefix[..lengths.0], &period[..lengths.1])
+    prefix.truncate(before);
+    period.truncate(turn);
+    Ok((prefix, period))
+}
+
+fn files_not_too_long(first: &[u8], second: &[u8]) -> Result<(), Refusal> {
+    not_too_long(Part::First, first)?;
+    not_too_long(Part::Second, second)
 }
 
 /// Refusal 25 where a file has more bytes than are read.
@@ -96,6 +123,30 @@ mod tests {
         refused(B, openings(31, SCENES).as_bytes(), "9 opening 0");
         refused(B, b"part scene\nopening 1\nopening 2\nloop 2\n", "9 opening 1");
         refused(B, b"part scene\nopening 1\nloop 1\nloop 31\n", "9 loop 1");
+    }
+
+    /// The sheet's text, then the show's, then the seconds of its scenes.
+    #[test]
+    fn the_program_durations_judges_in_the_order_of_the_papers() {
+        let three = "level scenes places\n3 2 1\nplace loops s0 s1\n0 1 0 0\nplace loop mark s0 s1\n0 0 1 0 0\n";
+        let four = three.replace("3 2 1\n", "4 2 1\nscene seconds\n0 7\n1 120\n");
+        let is = |sheet: &str, text: &str, due: &str| assert_eq!(durations(sheet.as_bytes(), text.as_bytes()), due);
+        let refused =
+            |sheet: &str, text: &str, refusal: &str| is(sheet, text, &format!("refused part place\n{refusal}\n"));
+        let long = "x".repeat(LONGEST_FILE + 1);
+        let show = "part scene\nopening 1\nopening 0\nloop 1\n";
+        is(&four, show, "part scene seconds\nopening 1 120\nopening 0 7\nloop 1 120\nopening loop\n127 120\n");
+        refused(&long, &long, "25 first 65536");
+        refused("", &long, "25 second 65536");
+        refused("", "", "11 first 0");
+        refused(&four.replace("0 7\n", "0 0\n"), "", "14 first 42");
+        refused(&four, "", "11 second 0");
+        refused(three, "part scene\nopening 1\n", "8 second 21");
+        refused(three, &show_text::text_of(&[1; SCENES + 1], &[1]), "21 opening 4097");
+        refused(three, show, "9 opening 0");
+        refused(three, "part scene\nloop 0\n", "9 loop 0");
+        refused(&four, "part scene\nopening 1\nopening 2\nloop 2\n", "9 opening 1");
+        refused(&four, "part scene\nopening 1\nloop 2\n", "9 loop 0");
     }
 
     #[test]

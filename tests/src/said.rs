@@ -1,6 +1,7 @@
 //! What the programs say on standard error: of files that are not there, and of a refusal in words.
 
-/// What `compare` and `verdict` say of their files, by their names and bytes, beside what they print. A show is lines of text.
+/// What `compare`, `verdict` and `durations` say of their files, by their names and bytes, beside what they print. A show is lines of text,
+/// and so is a file whose name says it.
 pub fn said(program: &str, files: &[(&str, Option<&[u8]>); 2], printed: &str) -> String {
     let missing = files.iter().filter(|(_, bytes)| bytes.is_none());
     let mut said: String = missing.map(|(name, _)| format!("{name}: No such file or directory\n")).collect();
@@ -20,7 +21,8 @@ pub fn said(program: &str, files: &[(&str, Option<&[u8]>); 2], printed: &str) ->
             "opening" | "loop" if number == 9 => scene_place(files[1].0, files[1].1.unwrap_or_default(), part, place),
             _ => name.to_string(),
         };
-        said += &refused(number, &place);
+        let untimed = program == "durations" && number == 9 && part != "second" && is_level_three(files[0].1);
+        said += &if untimed { refused_untimed(&place, files[0].0) } else { refused(number, &place) };
     }
     said
 }
@@ -28,6 +30,15 @@ pub fn said(program: &str, files: &[(&str, Option<&[u8]>); 2], printed: &str) ->
 /// A refusal at a place, which names the file.
 pub fn refused(number: usize, place: &str) -> String {
     format!("{place}: refusal {number}: {}\n", sentence(number))
+}
+
+/// A scene of a show whose sheet's text, of level three, has no seconds at all.
+fn refused_untimed(place: &str, sheet: &str) -> String {
+    format!("{place}: refusal 9: this scene has no seconds, {sheet} is a text of level three\n")
+}
+
+fn is_level_three(text: Option<&[u8]>) -> bool {
+    text.is_some_and(|text| text.starts_with(b"level scenes places\n3 "))
 }
 
 /// By line and column, both from 1.
@@ -42,7 +53,8 @@ pub fn text_place(name: &str, text: &[u8], place: usize) -> String {
 fn scene_place(name: &str, text: &[u8], part: &str, scene: usize) -> String {
     let text = std::str::from_utf8(text).expect("a show's text");
     let start = format!("{part} ");
-    let (line, _) = text.lines().enumerate().filter(|(_, line)| line.starts_with(&start)).nth(scene).expect("the scene");
+    let (line, _) =
+        text.lines().enumerate().filter(|(_, line)| line.starts_with(&start)).nth(scene).expect("the scene");
     format!("{name}:{}:{}", line + 1, start.len() + 1)
 }
 
@@ -66,6 +78,7 @@ fn sentence(number: usize) -> &'static str {
         22 => "the comparison needs more work cells than there are",
         23 => "the show found is longer than the room for it",
         25 => "the file has more than 65,536 bytes",
+        26 => "this part of the show has more than 65,536 scenes",
         _ => panic!("no program is refused by {number} here"),
     }
 }

@@ -38,10 +38,16 @@ pub fn write(level: u64, sheet: &[u8], seconds: &[u16], out: &mut [u8]) -> Resul
     let sheet = Sheet::read(sheet, Part::First)?;
     let timed = if level == TIMED { sheet.letters } else { 0 };
     room(Part::Seconds, seconds.len(), timed)?;
-    if let Some(place) = seconds[..timed].iter().position(|&cell| !(1..=MOST_SECONDS).contains(&(cell as usize))) {
-        return Err(Refusal { number: 14, part: Part::Seconds, place });
-    }
+    judge_seconds(&seconds[..timed])?;
     fill(out, text_of(level, &sheet, seconds).as_bytes())
+}
+
+/// Refusal 14 at the first cell that is 0 or above 999.
+pub fn judge_seconds(cells: &[u16]) -> Result<(), Refusal> {
+    match cells.iter().position(|&cell| !(1..=MOST_SECONDS).contains(&(cell as usize))) {
+        Some(place) => Err(Refusal { number: 14, part: Part::Seconds, place }),
+        None => Ok(()),
+    }
 }
 
 /// What a text says, or its fault at the smallest place.

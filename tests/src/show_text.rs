@@ -21,7 +21,13 @@ pub fn read(text: &[u8], prefix: &mut [u8], period: &mut [u8]) -> Result<(usize,
 
 /// Puts the text of a lasso into the out slice.
 pub fn write(prefix: &[u8], period: &[u8], out: &mut [u8]) -> Result<usize, Refusal> {
-    let known = |letters: &[u8], part| match letters.iter().position(|&letter| letter as usize >= MOST) {
+    judge_letters(prefix, period, MOST)?;
+    fill(out, text_of(prefix, period).as_bytes())
+}
+
+/// Refusals 9, 8 and 9 of a lasso whose letters are to be below a count.
+pub fn judge_letters(prefix: &[u8], period: &[u8], letters: usize) -> Result<(), Refusal> {
+    let known = |word: &[u8], part| match word.iter().position(|&letter| letter as usize >= letters) {
         Some(place) => Err(Refusal { number: 9, part, place }),
         None => Ok(()),
     };
@@ -29,8 +35,7 @@ pub fn write(prefix: &[u8], period: &[u8], out: &mut [u8]) -> Result<usize, Refu
     if period.is_empty() {
         return Err(Refusal { number: 8, part: Part::Loop, place: 0 });
     }
-    known(period, Part::Loop)?;
-    fill(out, text_of(prefix, period).as_bytes())
+    known(period, Part::Loop)
 }
 
 /// The prefix and the period of a text, or the fault at the smallest place.

@@ -8,7 +8,6 @@ use Rattle.slices.specs.Filling.{filled}
 use Rattle.numbers.specs.declared.Number.{Number}
 use Rattle.numbers.specs.declared.Number.the-variants.{Good, Refused}
 use Rattle.notation.specs.Reading as notation
-use Rattle.lasso_text.specs.Reading as lasso-text
 use Rattle.answers.specs.Layout.{numbersOf, unlessShort, Told}
 
 -- A number and the place after it, or the refusal.
@@ -27,10 +26,6 @@ readNumbers x = x .value ∷ x .next ∷ []
 abbrev pub sheetNumbers : notation.Told → List ℕ
 sheetNumbers x = x .level ∷ x .filled ∷ []
 
--- The lengths of prefix and period.
-abbrev pub lassoNumbers : lasso-text.Sizes → List ℕ
-lassoNumbers z = z .prefix ∷ z .period ∷ []
-
 -- Reading a sheet's text: what is told, the packed sheet and the seconds.
 abbrev pub sheetReadFault : Result notation.Sheet → List ℕ → List ℕ → Fault
 sheetReadFault x out seconds = notation.readFault x (length out) (length seconds)
@@ -44,15 +39,3 @@ pub record SheetTold (x : Result notation.Sheet) (out seconds answer out′ seco
   pub sheet : out′ ≡ unlessShort 3 answer out (filled (sheetReadFault x out seconds) (notation.said x .bytes) out)
   pub times : seconds′
       ≡ unlessShort 3 answer seconds (filled (sheetReadFault x out seconds) (notation.said x .seconds) seconds)
-
--- Reading a lasso's text: what is told, prefix and period.
-abbrev pub lassoReadFault : Result lasso-text.Words → List ℕ → List ℕ → Fault
-lassoReadFault x u v = lasso-text.readFault x (length u) (length v)
-
-abbrev pub lassoSays : Result lasso-text.Words → List ℕ → List ℕ → Result lasso-text.Sizes
-lassoSays x u v = unless (lassoReadFault x u v) (lasso-text.sizesOf (lasso-text.wordsIn x))
-
-pub record LassoTold (x : Result lasso-text.Words) (u v answer u′ v′ answer′ : List ℕ) (r : ℕ) : Type 0 where
-  pub tells : Told 3 (numbersOf lassoNumbers (lassoSays x u v)) answer answer′ r
-  pub prefix : u′ ≡ unlessShort 3 answer u (filled (lassoReadFault x u v) (lasso-text.wordsIn x .prefix) u)
-  pub period : v′ ≡ unlessShort 3 answer v (filled (lassoReadFault x u v) (lasso-text.wordsIn x .period) v)

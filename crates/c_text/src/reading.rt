@@ -1,20 +1,16 @@
-// Texts into lent slices: a number at a place, a sheet, a show.
+// Texts into lent slices: a number at a place, a sheet.
 use crate::ANSWER;
 use answers::SHORT;
 use answers::part_number;
 use answers::tell;
-use lasso_text::Lengths;
 use notation::Levelled;
 use numbers::Number;
-use slices::Part;
 ghost use mathlib.Core.Path.{_≡_};
 ghost use Rattle.slices.specs.declared.Part.the-variants.{First};
 ghost use Rattle.numbers.specs.Numerals.{numberAt};
 ghost use Rattle.notation.specs.Reading.{sheetIn, levelledSays};
-ghost use Rattle.lasso_text.specs.Reading.{wordsOf, lengthsSay};
 ghost use Rattle.answers.specs.Layout.{numbersOf, padded, Told};
-ghost use Rattle.c_text.specs.Numbers.{numberResult, readNumbers, sheetNumbers, lassoNumbers};
-ghost use Rattle.c_text.specs.Numbers.{SheetTold, LassoTold};
+ghost use Rattle.c_text.specs.Numbers.{numberResult, readNumbers, sheetNumbers, SheetTold};
 
 fn number_numbers(number: Number) -> [u64; 3]
     ensures { λ r. ⌜ r ≡ padded 3 (numbersOf readNumbers (numberResult number)) ⌝ }
@@ -34,18 +30,6 @@ fn sheet_numbers(levelled: Levelled) -> [u64; 3]
     match levelled {
         Levelled::Filled(level, n) => [0, level as u64, n as u64],
         Levelled::Refused(r) => {
-            let part = r.part;
-            [r.number as u64, part_number(part), r.place as u64]
-        }
-    }
-}
-
-fn lasso_numbers(lengths: Lengths) -> [u64; 3]
-    ensures { λ r. ⌜ r ≡ padded 3 (numbersOf lassoNumbers (lengthsSay lengths)) ⌝ }
-{
-    match lengths {
-        Lengths::Filled(m, n) => [0, m as u64, n as u64],
-        Lengths::Refused(r) => {
             let part = r.part;
             [r.number as u64, part_number(part), r.place as u64]
         }
@@ -83,25 +67,5 @@ pub extern "C" fn fdfa_sheet_read(
     }
     let levelled = notation::read(text, out, seconds);
     let told = sheet_numbers(levelled);
-    tell(&told, answer)
-}
-
-// The show of a text, its opening and its loop: both lengths.
-#[no_mangle]
-pub extern "C" fn fdfa_show_read(
-    text: &[u8],
-    prefix: &mut [u8],
-    period: &mut [u8],
-    answer: &mut [u8],
-) -> u32
-    ensures { λ r. ⌜ LassoTold (wordsOf 32 First (now (text .entry)))
-        (now (prefix .entry)) (now (period .entry)) (now (answer .entry))
-        (now (prefix .exit)) (now (period .exit)) (now (answer .exit)) r ⌝ }
-{
-    if answer.len() < ANSWER {
-        return SHORT;
-    }
-    let lengths = lasso_text::read(text, Part::First, prefix, period);
-    let told = lasso_numbers(lengths);
     tell(&told, answer)
 }

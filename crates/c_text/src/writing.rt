@@ -1,13 +1,11 @@
-// A sheet and a show as text, and the packed sheet of an automaton's text, in the out slice: its length.
+// A sheet as text, and the packed sheet of an automaton's text, in the out slice: its length.
 use crate::ANSWER;
 use answers::SHORT;
 use answers::fill_numbers;
 use answers::tell;
 ghost use lib.ListN.{length};
 ghost use Rattle.blocks.specs.Text.{textOf};
-ghost use Rattle.notation.specs.Writing.{writeFault as sheetWriteFault};
-ghost use Rattle.lasso_text.specs.Text.{lassoText};
-ghost use Rattle.lasso_text.specs.Writing.{writeFault as lassoWriteFault};
+ghost use Rattle.notation.specs.Writing.{writeFault};
 ghost use Rattle.buchi_import.specs.Reading.{bytesOf, readFault};
 ghost use Rattle.answers.specs.Layout.{FillTold};
 
@@ -21,7 +19,7 @@ pub extern "C" fn fdfa_sheet_write(
     answer: &mut [u8],
 ) -> u32
     ensures { λ r. ⌜ FillTold
-        (sheetWriteFault level (now (seconds .entry)) (now (sheet .entry)) (length (now (out .entry))))
+        (writeFault level (now (seconds .entry)) (now (sheet .entry)) (length (now (out .entry))))
         (textOf level (now (seconds .entry)) (now (sheet .entry)))
         (now (out .entry)) (now (answer .entry)) (now (out .exit)) (now (answer .exit)) r ⌝ }
 {
@@ -29,27 +27,6 @@ pub extern "C" fn fdfa_sheet_write(
         return SHORT;
     }
     let filled = notation::write(level, sheet, seconds, out);
-    let told = fill_numbers(filled);
-    tell(&told, answer)
-}
-
-// The text of a show.
-#[no_mangle]
-pub extern "C" fn fdfa_show_write(
-    prefix: &[u8],
-    period: &[u8],
-    out: &mut [u8],
-    answer: &mut [u8],
-) -> u32
-    ensures { λ r. ⌜ FillTold
-        (lassoWriteFault (now (prefix .entry)) (now (period .entry)) (length (now (out .entry))))
-        (lassoText (now (prefix .entry)) (now (period .entry)))
-        (now (out .entry)) (now (answer .entry)) (now (out .exit)) (now (answer .exit)) r ⌝ }
-{
-    if answer.len() < ANSWER {
-        return SHORT;
-    }
-    let filled = lasso_text::write(prefix, period, out);
     let told = fill_numbers(filled);
     tell(&told, answer)
 }

@@ -20,7 +20,8 @@ use Rattle.inclusion.specs.Calls.{Slices, callFault, compareStart, Compared}
 use Rattle.inclusion.proofs.Settling.{settled-for, settled-given}
 use Rattle.console.specs.declared.Length.{Length}
 use Rattle.console.specs.declared.Length.the-variants as length-of
-use Rattle.console.specs.Files.{lengthsFault, after, saysOf}
+use Rattle.console.specs.Files.{lengthsFault, saysOf}
+use Rattle.console.proofs.Lengths.{too-long, short-enough}
 use Rattle.compare_files.specs.Decided.{room, compared, programFault, comparedIn, ofSheets, firstSheet, secondSheet, decided, witnessIn, Holds, Decides}
 
 -- what is refused for the room of a show depends on the lengths of the slices alone
@@ -78,8 +79,8 @@ module _ (x y : Result (List ℕ)) where
 module _ (any : Bool) (b c : List ℕ) {l : Length} (h : saysOf l ≡ lengthsFault (length b) (length c)) where
   pub length-refused : (o p : List ℕ) {q : Refusal} → l ≡ length-of.Refused q → Decides (decided any b c) o p (Refused q)
   unfolding decided
-  length-refused o p e = decides-refused o p (ap (λ (f : Fault). after f (ofSheets (firstSheet any b) (secondSheet any c))) (sym h ∙ ap saysOf e))
+  length-refused o p e = decides-refused o p (too-long (ofSheets (firstSheet any b) (secondSheet any c)) h e)
 
   pub length-good : {o p : List ℕ} {r : Outcome} → l ≡ length-of.Good → Decides (ofSheets (firstSheet any b) (secondSheet any c)) o p r → Decides (decided any b c) o p r
   unfolding decided
-  length-good e d = decides-as (ap (λ (f : Fault). after f (ofSheets (firstSheet any b) (secondSheet any c))) (sym (sym h ∙ ap saysOf e))) d
+  length-good e d = decides-as (sym (short-enough (ofSheets (firstSheet any b) (secondSheet any c)) h e)) d

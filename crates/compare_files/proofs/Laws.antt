@@ -5,14 +5,14 @@ use mathlib.Core.Bool.{Bool, false}
 use mathlib.Core.List.{List}
 use Prim.Native.Nat.{ℕ, _≤_}
 use lib.ListN.{length}
-use borrow.Author.Tests.{le-ltb}
 use Rattle.slices.specs.declared.Part.the-variants.{First, Second}
-use Rattle.slices.specs.Refusals.{Fault, sound, fault, _then_, Result, given, refused, unless}
-use Rattle.slices.proofs.Refusals.{passed, failed, when-passes, refuses, never-given, was-given}
+use Rattle.slices.specs.Refusals.{Fault, sound, fault, Result, given, refused, unless}
+use Rattle.slices.proofs.Refusals.{passed, failed, refuses, never-given, was-given}
 use Rattle.fdfa.specs.Inclusion as model
 use Rattle.packed.specs.Layout.{letterCount}
 use Rattle.packed.specs.Faults.{sheetFault, secondFault}
 use Rattle.console.specs.Files.{lengthsFault, after}
+use Rattle.console.proofs.Lengths.{lengths-good}
 use Rattle.compare_files.specs.Decided.{compared, programFault, comparedIn, ofSheets, firstSheet, secondSheet, decided}
 
 -- The sheets of two files that were compared, and nothing is refused.
@@ -51,6 +51,5 @@ module _ (b c : List ℕ) where
   pub packed-decided : length b ≤ 65536 → length c ≤ 65536 → decided false b c ≡ comparedIn b c
   unfolding decided
   packed-decided h k =
-      ap (λ (f : Fault). after f (ofSheets (firstSheet false b) (secondSheet false c)))
-      (passed _ (when-passes 25 First 65536 (le-ltb 65536 (length b) h)) ∙ when-passes 25 Second 65536 (le-ltb 65536 (length c) k))
+      ap (λ (f : Fault). after f (ofSheets (firstSheet false b) (secondSheet false c))) (lengths-good (length b) (length c) h k)
       ∙ packed-sheets

@@ -2,25 +2,23 @@
 use mathlib.Core.Path.{_≡_, ap, sym, _∙_}
 use mathlib.Core.Bool.{Bool}
 use mathlib.Core.List.{List}
-use Prim.Native.Nat.{ℕ, _*_, _/_, _≤_, _<_}
-use native.Mathlib.Omega.{arith}
+use Prim.Native.Nat.{ℕ, _*_, _/_, _≤_}
 use lib.ListN.{length, getD, take}
 use Rattle.slices.specs.declared.Refusal.{Refusal}
 use Rattle.slices.specs.declared.Written.{Written}
-use Rattle.slices.specs.Refusals.{Fault, sound, fault, Result, given, faultIn}
+use Rattle.slices.specs.Refusals.{Fault, sound, fault, Result, given}
 use Rattle.slices.specs.Filling.{written, filled, Fills}
 use Rattle.slices.specs.Halves.{halvesOf, halfBytes}
-use Rattle.slices.proofs.Refusals.{then-left, refuses, gives, was-given, was-refused}
+use Rattle.slices.proofs.Refusals.{refuses, gives, was-given}
 use Rattle.slices.proofs.Filling.{written-front, filled-front}
-use Rattle.slices.proofs.Tables.{getD-first}
 use Rattle.slices.proofs.Halved.{length-halfBytes, length-halvesOf}
 use Rattle.blocks.specs.Text.{timed, textOf}
 use Rattle.notation.specs.declared.Levelled.{Levelled}
 use Rattle.notation.specs.declared.Levelled.the-variants as levelled
 use Rattle.notation.specs.Reading as notation
-use Rattle.notation.specs.Reading.{Sheet, sheetIn, said, roomFault, readFault, levelledSays, SheetRead}
-use Rattle.notation.specs.Writing.{writeFault, Writable}
-use Rattle.notation.proofs.Laws.{read-writable}
+use Rattle.notation.specs.Reading.{Sheet, sheetIn, said, readFault, SheetRead}
+use Rattle.notation.specs.Writing.{writeFault}
+use Rattle.notation.proofs.Taken.{read-refused, read-given, cells-count, cells-front}
 use Rattle.conversion.specs.declared.Packed.{Packed}
 use Rattle.conversion.specs.declared.Packed.the-variants.{Filled, Refused}
 use Rattle.conversion.specs.Forms.{Told, secondsBytes, toldOf, packedSays, packFault, Packs, levelOf, Unpacks, Within}
@@ -47,42 +45,15 @@ packs-refused {x} {sheet} {cells} {q = q} seconds h many e = record {
 }
   where
     was : packFault x (length sheet) ≡ fault q
-    was =
-        ap (readFault x (length sheet)) (sym many)
-        ∙ was-refused (readFault x (length sheet) (length cells)) (notation.toldOf (said x)) (sym (ap levelledSays e) ∙ h .says)
+    was = ap (readFault x (length sheet)) (sym many) ∙ read-refused h e
 
 -- a text that was read, with 32 cells for the seconds
 module _ (t : List ℕ) {sheet cells sheet′ cells′ : List ℕ} {r : Levelled} {level n : ℕ} (h : SheetRead (sheetIn t) sheet cells sheet′ cells′ r) (many : length cells ≡ 32) (e : r ≡ levelled.Filled level n) where
   nothing : (readFault (sheetIn t) (length sheet) (length cells) ≡ sound) × (record { level = level; filled = n } ≡ notation.toldOf (said (sheetIn t)))
-  nothing =
-      was-given (readFault (sheetIn t) (length sheet) (length cells)) (notation.toldOf (said (sheetIn t))) (sym (ap levelledSays e) ∙ h .says)
-
-  bytes-room : n ≤ length sheet′
-  bytes-room = filled-front (said (sheetIn t) .bytes) sheet (nothing .0) (ap (λ (x : notation.Told). x .filled) (nothing .1)) (h .sheet) .0
-
-  read : Writable (said (sheetIn t))
-  read = read-writable t (then-left (faultIn (sheetIn t)) (roomFault (said (sheetIn t)) (length sheet) (length cells)) (nothing .0))
-
-  some : 0 < length (said (sheetIn t) .bytes)
-  some = omega (arith, read .valid .header .long)
-
-  pub first-byte : 0 < length sheet′
-  first-byte = omega (arith, some, bytes-room, ap (λ (x : notation.Told). x .filled) (nothing .1))
+  nothing = read-given h e
 
   -- by the first byte of the packed sheet, the cells that have seconds
   module _ {first m : ℕ} (f : first ≡ getD sheet′ 0 0) (k : m ≡ timed level first) where
-    cells-count : m ≡ length (said (sheetIn t) .seconds)
-    unfolding written
-    cells-count =
-        k
-        ∙ (ap (timed level) (f
-        ∙ (ap (λ (b : List ℕ). getD b 0 0) (h .sheet ∙ ap (λ (g : Fault). filled g (said (sheetIn t) .bytes) sheet) (nothing .0))
-        ∙ getD-first (said (sheetIn t) .bytes) _ 0 some))
-        ∙ (ap (λ (x : notation.Told). timed (x .level) (getD (said (sheetIn t) .bytes) 0 0)) (nothing .1) ∙ sym (read .exact)))
-
-    pub cells-front : (m ≤ length cells′) × (take m cells′ ≡ said (sheetIn t) .seconds)
-    cells-front = filled-front (said (sheetIn t) .seconds) cells (nothing .0) cells-count (h .times)
-
     pub packs-filled : {seconds seconds′ : List ℕ} → seconds′ ≡ written (halfBytes (take m cells′)) seconds → Packs (sheetIn t) sheet seconds sheet′ seconds′ (Filled level n (m * 2))
     packs-filled {seconds} d = record {
       says =
@@ -91,7 +62,7 @@ module _ (t : List ℕ) {sheet cells sheet′ cells′ : List ℕ} {r : Levelled
       cells = h .sheet ∙ ap (λ (c : ℕ). filled (readFault (sheetIn t) (length sheet) c) (said (sheetIn t) .bytes) sheet) many;
       times =
           d
-          ∙ (ap (λ (w : List ℕ). written (halfBytes w) seconds) (cells-front .1)
+          ∙ (ap (λ (w : List ℕ). written (halfBytes w) seconds) (cells-front t h e f k .1)
           ∙ ap (λ (g : Fault). filled g (secondsBytes (said (sheetIn t))) seconds) (sym was));
     }
       where
@@ -99,7 +70,7 @@ module _ (t : List ℕ) {sheet cells sheet′ cells′ : List ℕ} {r : Levelled
         was = ap (readFault (sheetIn t) (length sheet)) (sym many) ∙ nothing .0
 
         bytes-count : m * 2 ≡ length (secondsBytes (said (sheetIn t)))
-        bytes-count = ap (λ (c : ℕ). c * 2) cells-count ∙ sym (length-halfBytes (said (sheetIn t) .seconds))
+        bytes-count = ap (λ (c : ℕ). c * 2) (cells-count t h e f k) ∙ sym (length-halfBytes (said (sheetIn t) .seconds))
 
 -- the text that was written, of seconds that were bytes
 pub cells-of : (bytes old : List ℕ) {cells : List ℕ} (k : ℕ) → k ≡ length bytes / 2 → cells ≡ written (halvesOf bytes) old → take k cells ≡ halvesOf bytes

@@ -5,3 +5,4 @@ pub mod Whole
 pub mod Laws
 pub mod SheetB
 pub mod Refused
+pub mod Taken

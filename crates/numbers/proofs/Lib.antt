@@ -4,3 +4,4 @@ pub mod Digits
 pub mod Runs
 pub mod Canonical
 pub mod Backward
+pub mod Smalls

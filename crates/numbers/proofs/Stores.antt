@@ -65,3 +65,6 @@ stored-written {old} {new} {r} {x} s h = s .cells ∙ (sets-eq x old 0 (omega ar
 
 pub stored-new : {old new fresh : List ℕ} {at r : ℕ} {x : List ℕ} → fresh ≡ new → Stored old at x new r → Stored old at x fresh r
 stored-new {old} {new} {fresh} {at} {r} {x} e s = record { cells = e ∙ s .cells; next = s .next }
+
+pub stored-at : {old new x : List ℕ} {at q r : ℕ} → r ≡ q → Stored old at x new q → Stored old at x new r
+stored-at e s = record { cells = s .cells; next = e ∙ s .next }

@@ -8,6 +8,8 @@ pub use reading::number_at;
 use slices::Refusal;
 pub use writing::put;
 pub use writing::put_field;
+pub use writing::put_small;
+pub use writing::small_width;
 pub use writing::width;
 
 // The number at a place, with the place after it; or the refusal.

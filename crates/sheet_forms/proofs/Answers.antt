@@ -14,7 +14,6 @@ use Rattle.slices.specs.declared.Written.the-variants.{Filled, Refused}
 use Rattle.slices.specs.Refusals.{Fault, sound, fault, Result, given, refused, unless, mapped, faultIn, writtenSays}
 use Rattle.slices.specs.Filling.{written, filled, Fills}
 use Rattle.slices.proofs.Refusals.{faulty, was-given, was-refused, sound-given}
-use Rattle.slices.proofs.Filling.{fill-refused, fill-given}
 use Rattle.packed.specs.declared.Validity.{Validity}
 use Rattle.packed.specs.declared.Validity.the-variants as validity
 use Rattle.packed.specs.declared.Sizes.{Sizes}
@@ -23,13 +22,15 @@ use Rattle.packed.proofs.Soundness.{sound-valid}
 use Rattle.notation.specs.declared.Levelled.{Levelled}
 use Rattle.notation.specs.declared.Levelled.the-variants as levelled
 use Rattle.notation.specs.Reading as notation
-use Rattle.notation.specs.Reading.{Sheet, sheetIn, said, toldOf, levelledSays, SheetRead}
+use Rattle.notation.specs.Reading.{Sheet, sheetIn, said, SheetRead}
+use Rattle.notation.proofs.Taken.{read-refused, read-given}
 use Rattle.buchi_import.specs.Reading as drawing
 use Rattle.buchi_import.specs.Reading.{Numbers, numbersOf, bytesIn, bytesOf}
 use Rattle.sheet_forms.specs.declared.Form.{Form}
 use Rattle.sheet_forms.specs.declared.Form.the-variants.{Text, Drawn, Packed}
-use Rattle.sheet_forms.specs.Forms.{formOf, formIn, ofPart, inPart, sheetBytes, drawnBytes, sheetAs, Packs}
+use Rattle.sheet_forms.specs.Forms.{formOf, formIn, ofPart, inPart, sheetBytes, drawnBytes, sheetAs, FillsWith}
 use Rattle.sheet_forms.proofs.Rooms.{valid-few, text-room, drawn-room}
+use Rattle.sheet_forms.proofs.Results.{result-refused, result-given}
 
 -- the form that the first byte tells
 pub form-none : (b : List ℕ) → length b ≡ 0 → Packed ≡ formOf b
@@ -63,15 +64,11 @@ fault-refused (given a) e = absurd (faulty (sym e))
 fault-refused (refused r) {q} e = let d : r ≡ q = cc in ap refused d
 
 module _ {A : Type 0} (f : A → List ℕ) (part : Part) (x : Result A) {old out : List ℕ} where
-  pub packs-refused : {q p : Refusal} → x ≡ refused q → p ≡ ofPart part q → out ≡ old → Packs (inPart part (mapped f x)) old out (Refused p)
-  packs-refused {q} {p} e d o =
-      subst (λ (y : List ℕ). Packs (inPart part (mapped f x)) old y (Refused p)) (sym o)
-      (subst (λ (y : Result A). Packs (inPart part (mapped f y)) old old (Refused p)) (sym e)
-      (fill-refused [] old (ap fault (sym d))))
+  pub packs-refused : {q p : Refusal} → x ≡ refused q → p ≡ ofPart part q → out ≡ old → FillsWith (inPart part (mapped f x)) old out (Refused p)
+  packs-refused e d o = result-refused (ap (λ (y : Result A). inPart part (mapped f y)) e ∙ ap refused (sym d)) o
 
-  pub packs-given : {y : A} {n : ℕ} → x ≡ given y → n ≡ length (f y) → out ≡ written (f y) old → Packs (inPart part (mapped f x)) old out (Filled n)
-  packs-given {y} {n} e l o =
-      subst (λ (z : Result A). Packs (inPart part (mapped f z)) old out (Filled n)) (sym e) (fill-given (f y) refl l o)
+  pub packs-given : {y : A} {n : ℕ} → x ≡ given y → n ≡ length (f y) → out ≡ written (f y) old → FillsWith (inPart part (mapped f x)) old out (Filled n)
+  packs-given e l o = result-given (ap (λ (y : Result A). inPart part (mapped f y)) e) l o
 
 -- a text
 module _ (t : List ℕ) (part : Part) {old out cells cells′ : List ℕ} {r : Levelled} (long : 34850 ≤ length old) (many : length cells ≡ 32) (h : SheetRead (sheetIn t) old cells out cells′ r) where
@@ -81,14 +78,14 @@ module _ (t : List ℕ) (part : Part) {old out cells cells′ : List ℕ} {r : L
   judged : F ≡ faultIn (sheetIn t)
   judged = ap (λ (k : ℕ). notation.readFault (sheetIn t) (length old) k) many ∙ text-room (length old) long t
 
-  pub text-refused : {q p : Refusal} → r ≡ levelled.Refused q → p ≡ ofPart part q → Packs (sheetAs Text part t) old out (Refused p)
+  pub text-refused : {q p : Refusal} → r ≡ levelled.Refused q → p ≡ ofPart part q → FillsWith (sheetAs Text part t) old out (Refused p)
   text-refused {q} e d =
-      let g = was-refused F (toldOf (said (sheetIn t))) (sym (ap levelledSays e) ∙ h .says) in
+      let g = read-refused h e in
       packs-refused sheetBytes part (sheetIn t) (fault-refused (sheetIn t) (sym judged ∙ g)) d (h .sheet ∙ ap (λ (f : Fault). filled f (said (sheetIn t) .bytes) old) g)
 
-  pub text-filled : {level n : ℕ} → r ≡ levelled.Filled level n → Packs (sheetAs Text part t) old out (Filled n)
+  pub text-filled : {level n : ℕ} → r ≡ levelled.Filled level n → FillsWith (sheetAs Text part t) old out (Filled n)
   text-filled {level} {n} e =
-      let g = was-given F (toldOf (said (sheetIn t))) (sym (ap levelledSays e) ∙ h .says) in
+      let g = read-given h e in
       let y = sound-given (sheetIn t) (sym judged ∙ g .0) in
       packs-given sheetBytes part (sheetIn t) (y .1)
       (ap (λ (x : notation.Told). x .filled) (g .1) ∙ ap (λ (x : Result Sheet). length (said x .bytes)) (y .1))
@@ -99,12 +96,12 @@ module _ (t : List ℕ) (part : Part) {old out : List ℕ} {r : Written} (long :
   abbrev G : Fault
   G = drawing.readFault t (length old)
 
-  pub drawn-refused : {q p : Refusal} → r ≡ Refused q → p ≡ ofPart part q → Packs (sheetAs Drawn part t) old out (Refused p)
+  pub drawn-refused : {q p : Refusal} → r ≡ Refused q → p ≡ ofPart part q → FillsWith (sheetAs Drawn part t) old out (Refused p)
   drawn-refused {q} e d =
       let g = was-refused G (length (bytesOf t)) (sym (ap writtenSays e) ∙ h .says) in
       packs-refused drawnBytes part (numbersOf t) (fault-refused (numbersOf t) (sym (drawn-room (length old) long t) ∙ g)) d (h .cells ∙ ap (λ (f : Fault). filled f (bytesOf t) old) g)
 
-  pub drawn-filled : {n : ℕ} → r ≡ Filled n → Packs (sheetAs Drawn part t) old out (Filled n)
+  pub drawn-filled : {n : ℕ} → r ≡ Filled n → FillsWith (sheetAs Drawn part t) old out (Filled n)
   unfolding bytesOf
   drawn-filled {n} e =
       let g = was-given G (length (bytesOf t)) (sym (ap writtenSays e) ∙ h .says) in
@@ -118,16 +115,16 @@ module _ (b : List ℕ) (part : Part) {r : Validity} (h : saysOf r ≡ checked p
   pub kept-room : {z : Sizes} → r ≡ validity.Valid z → length b ≤ 34850
   kept-room {z} e = valid-few b (sound-valid part b (was-given (sheetFault part b) (sizesOf b) (sym (ap saysOf e) ∙ h) .0))
 
-  pub kept-refused : (old : List ℕ) {q : Refusal} → r ≡ validity.Refused q → Packs (sheetAs Packed part b) old old (Refused q)
+  pub kept-refused : (old : List ℕ) {q : Refusal} → r ≡ validity.Refused q → FillsWith (sheetAs Packed part b) old old (Refused q)
   kept-refused old {q} e =
       let g = was-refused (sheetFault part b) (sizesOf b) (sym (ap saysOf e) ∙ h) in
-      subst (λ (f : Fault). Packs (unless f b) old old (Refused q)) (sym g) (fill-refused [] old refl)
+      result-refused (ap (λ (f : Fault). unless f b) g) refl
 
-  pub kept-filled : {old out : List ℕ} {z : Sizes} → r ≡ validity.Valid z → out ≡ written b old → Packs (sheetAs Packed part b) old out (Filled (length b))
+  pub kept-filled : {old out : List ℕ} {z : Sizes} → r ≡ validity.Valid z → out ≡ written b old → FillsWith (sheetAs Packed part b) old out (Filled (length b))
   kept-filled {old} {out} e o =
       let g = was-given (sheetFault part b) (sizesOf b) (sym (ap saysOf e) ∙ h) in
-      subst (λ (f : Fault). Packs (unless f b) old out (Filled (length b))) (sym (g .0)) (fill-given b refl refl o)
+      result-given (ap (λ (f : Fault). unless f b) (g .0)) refl o
 
 -- whatever the form
-pub packs-as : {form : Form} (x : Form) (part : Part) (b : List ℕ) {old out : List ℕ} {r : Written} → form ≡ x → Packs (sheetAs x part b) old out r → Packs (sheetAs form part b) old out r
-packs-as x part b {old} {out} {r} e h = subst (λ (y : Form). Packs (sheetAs y part b) old out r) (sym e) h
+pub packs-as : {form : Form} (x : Form) (part : Part) (b : List ℕ) {old out : List ℕ} {r : Written} → form ≡ x → FillsWith (sheetAs x part b) old out r → FillsWith (sheetAs form part b) old out r
+packs-as x part b {old} {out} {r} e h = subst (λ (y : Form). FillsWith (sheetAs y part b) old out r) (sym e) h

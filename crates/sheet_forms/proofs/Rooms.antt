@@ -27,7 +27,7 @@ use Rattle.sheet_forms.specs.Forms.{drawnBytes}
 pub valid-few : (b : List ℕ) → Valid b → length b ≤ 34850
 valid-few b v = omega (arith, v .exact, sheet-few b (v .header))
 
-timed-few : (level s : ℕ) → s ≤ 32 → timed level s ≤ 32
+pub timed-few : (level s : ℕ) → s ≤ 32 → timed level s ≤ 32
 unfolding timed
 timed-few level s h = by (eqb level 4)
   where

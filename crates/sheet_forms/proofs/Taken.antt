@@ -9,10 +9,10 @@ use Rattle.slices.specs.declared.Written.the-variants.{Filled, Refused}
 use Rattle.slices.specs.Refusals.{Result, given, refused, faultIn, writtenSays}
 use Rattle.slices.proofs.Refusals.{was-given, was-refused, sound-given}
 use Rattle.slices.proofs.Filling.{filled-front}
-use Rattle.sheet_forms.specs.Forms.{bytesFrom, Packs}
+use Rattle.sheet_forms.specs.Forms.{bytesFrom, FillsWith}
 use Rattle.sheet_forms.proofs.Answers.{fault-refused}
 
-module _ (x : Result (List ℕ)) {old out : List ℕ} {r : Written} (h : Packs x old out r) where
+module _ (x : Result (List ℕ)) {old out : List ℕ} {r : Written} (h : FillsWith x old out r) where
   pub was-refused-for : {q : Refusal} → r ≡ Refused q → x ≡ refused q
   was-refused-for e = fault-refused x (was-refused (faultIn x) (length (bytesFrom x)) (sym (ap writtenSays e) ∙ h .says))
 

@@ -64,6 +64,6 @@ abbrev pub bytesFrom : Result (List ℕ) → List ℕ
 bytesFrom (given b) = b
 bytesFrom (refused r) = []
 
--- A call that fills the out slice with a packed sheet, or refuses.
-abbrev pub Packs : Result (List ℕ) → List ℕ → List ℕ → Written → Type 0
-Packs x old out r = Fills (faultIn x) (bytesFrom x) old out r
+-- A call that fills the out slice with the bytes of a result, or refuses.
+abbrev pub FillsWith : Result (List ℕ) → List ℕ → List ℕ → Written → Type 0
+FillsWith x old out r = Fills (faultIn x) (bytesFrom x) old out r

@@ -10,7 +10,7 @@ ghost use mathlib.Core.Path.{_≡_};
 ghost use Prim.Native.Nat.{_≤_};
 ghost use lib.ListN.{length};
 ghost use Rattle.sheet_forms.specs.declared.Form.the-variants.{Text, Drawn, Packed};
-ghost use Rattle.sheet_forms.specs.Forms.{formOf, formIn, isText, ofPart, sheetAs, Packs};
+ghost use Rattle.sheet_forms.specs.Forms.{formOf, formIn, isText, ofPart, sheetAs, FillsWith};
 
 // The longest packed sheet: 32 scenes, 32 places, 32 places in each loop automaton.
 pub const SHEET: usize = 34850;
@@ -72,7 +72,7 @@ fn of_part(r: Refusal, part: Part) -> Refusal
 // A packed sheet as it is.
 fn keep(bytes: &[u8], part: Part, out: &mut [u8]) -> Written
     requires { ⌜ 34850 ≤ length (now out) ⌝ }
-    ensures { λ r. ⌜ Packs (sheetAs Packed part (now (bytes .entry))) (now (out .entry)) (now (out .exit)) r ⌝ }
+    ensures { λ r. ⌜ FillsWith (sheetAs Packed part (now (bytes .entry))) (now (out .entry)) (now (out .exit)) r ⌝ }
 {
     let validity = packed::check(bytes, part);
     match validity {
@@ -87,7 +87,7 @@ fn keep(bytes: &[u8], part: Part, out: &mut [u8]) -> Written
 // The sheet of a text of either level. Its seconds are passed over.
 fn pack_text(bytes: &[u8], part: Part, out: &mut [u8]) -> Written
     requires { ⌜ 34850 ≤ length (now out) ⌝ }
-    ensures { λ r. ⌜ Packs (sheetAs Text part (now (bytes .entry))) (now (out .entry)) (now (out .exit)) r ⌝ }
+    ensures { λ r. ⌜ FillsWith (sheetAs Text part (now (bytes .entry))) (now (out .entry)) (now (out .exit)) r ⌝ }
 {
     let mut seconds = [0u16; 32];
     let answer = notation::read(bytes, out, &mut seconds);
@@ -100,7 +100,7 @@ fn pack_text(bytes: &[u8], part: Part, out: &mut [u8]) -> Written
 // The sheet of a drawn automaton.
 fn pack_drawn(bytes: &[u8], part: Part, out: &mut [u8]) -> Written
     requires { ⌜ 34850 ≤ length (now out) ⌝ }
-    ensures { λ r. ⌜ Packs (sheetAs Drawn part (now (bytes .entry))) (now (out .entry)) (now (out .exit)) r ⌝ }
+    ensures { λ r. ⌜ FillsWith (sheetAs Drawn part (now (bytes .entry))) (now (out .entry)) (now (out .exit)) r ⌝ }
 {
     let answer = import(bytes, out);
     match answer {
@@ -112,7 +112,7 @@ fn pack_drawn(bytes: &[u8], part: Part, out: &mut [u8]) -> Written
 // The packed sheet that a file's bytes are, to the start of the out slice.
 pub fn pack(form: Form, bytes: &[u8], part: Part, out: &mut [u8]) -> Written
     requires { ⌜ 34850 ≤ length (now out) ⌝ }
-    ensures { λ r. ⌜ Packs (sheetAs form part (now (bytes .entry))) (now (out .entry)) (now (out .exit)) r ⌝ }
+    ensures { λ r. ⌜ FillsWith (sheetAs form part (now (bytes .entry))) (now (out .entry)) (now (out .exit)) r ⌝ }
 {
     match form {
         Form::Text => pack_text(bytes, part, out),

@@ -1,6 +1,7 @@
 -- Refusals: what a definition of a call says where its input is at fault. Assumes nothing.
 use mathlib.Core.Bool.{Bool, true, false}
 use Prim.Native.Nat.{ℕ}
+use lib.Dec.{ltb}
 use Rattle.slices.specs.declared.Part.{Part}
 use Rattle.slices.specs.declared.Refusal.{Refusal}
 use Rattle.slices.specs.declared.Written.{Written}
@@ -24,6 +25,10 @@ fault r then g = fault r
 abbrev pub when : Bool → ℕ → Part → ℕ → Fault
 when true number part place = faultOf number part place
 when false number part place = sound
+
+-- 21: a lent slice of `room` cells has too few for `need`.
+abbrev pub short : Part → ℕ → ℕ → Fault
+short part room need = when (ltb room need) 21 part need
 
 -- What a call says: its answer, or the refusal.
 pub data Result (A : Type 0) : Type 0 where

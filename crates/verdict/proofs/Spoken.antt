@@ -18,7 +18,7 @@ use Rattle.membership.specs.Verdict.{saysOf}
 use Rattle.console.specs.Printed.{Shows}
 use Rattle.wording.specs.Words.{File, showWords}
 use Rattle.console.proofs.Printed.{field-few, shows-none, shows-as, stored-shows}
-use Rattle.verdict_files.specs.Judged.{openings}
+use Rattle.show_files.specs.Shown.{openings}
 use Rattle.verdict.specs.Said.{startWords, markWords, waitWords, endWords, verdictWords, saidOf}
 
 pub start-stored : {old new : List ℕ} {r : ℕ} {accepted : Bool} (x : Bool) → accepted ≡ x → length (startWords x) ≤ 40 → Stored old 0 (startWords x) new r → Stored old 0 (startWords accepted) new r × (r ≤ 40)

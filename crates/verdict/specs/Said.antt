@@ -10,7 +10,8 @@ use Rattle.fdfa.specs.Acceptance.{Verdict}
 use Rattle.numbers.specs.Digits.{field}
 use Rattle.sheet_forms.specs.Forms.{formIn, isText}
 use Rattle.wording.specs.Words.{File, showWords}
-use Rattle.verdict_files.specs.Judged.{openings, judged}
+use Rattle.show_files.specs.Shown.{openings}
+use Rattle.verdict_files.specs.Judged.{judged}
 
 abbrev pub startWords : Bool → List ℕ
 startWords true = bytes "accepted: after the opening and "

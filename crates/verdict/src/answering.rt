@@ -4,7 +4,7 @@ use crate::text::verdict_text;
 use membership::Judgement;
 use sheet_forms::form_in;
 use sheet_forms::is_text;
-use verdict_files::count_openings;
+use show_files::count_openings;
 use verdict_files::judge_files;
 use wording::show_words;
 ghost use Prim.Native.Nat.{_≤_};

@@ -5,16 +5,15 @@ use mathlib.Core.Bool.{Bool, false}
 use mathlib.Core.List.{List}
 use Prim.Native.Nat.{ℕ, _≤_}
 use lib.ListN.{length}
-use borrow.Author.Tests.{le-ltb}
-use Rattle.slices.specs.declared.Part.the-variants.{First, Second}
+use Rattle.slices.specs.declared.Part.the-variants.{First}
 use Rattle.slices.specs.declared.Refusal.{Refusal}
-use Rattle.slices.specs.Refusals.{Fault, sound, fault, _then_, Result, given, refused, unless}
-use Rattle.slices.proofs.Refusals.{passed, when-passes}
+use Rattle.slices.specs.Refusals.{Fault, sound, fault, Result, given, refused, unless}
 use Rattle.fdfa.specs.Acceptance.{Verdict}
 use Rattle.packed.specs.Faults.{sheetFault}
 use Rattle.console.specs.declared.Length.{Length}
 use Rattle.console.specs.declared.Length.the-variants as length-of
 use Rattle.console.specs.Files.{lengthsFault, after, saysOf}
+use Rattle.console.proofs.Lengths.{too-long, short-enough, lengths-good}
 use Rattle.verdict_files.specs.Judged.{fileVerdict, ofSheet, sheetOf, judged}
 use Rattle.verdict_files.proofs.Files.{sheet-refused}
 
@@ -30,18 +29,17 @@ module _ (x : Result (List ℕ)) (t : List ℕ) where
 module _ (any : Bool) (b t : List ℕ) {l : Length} (h : saysOf l ≡ lengthsFault (length b) (length t)) where
   pub length-refused : {q : Refusal} → l ≡ length-of.Refused q → refused q ≡ judged any b t
   unfolding judged
-  length-refused e = ap (λ (f : Fault). after f (ofSheet (sheetOf any b) t)) (sym (ap saysOf e) ∙ h)
+  length-refused e = sym (too-long (ofSheet (sheetOf any b) t) h e)
 
   pub length-good : {v : Result Verdict} → l ≡ length-of.Good → v ≡ ofSheet (sheetOf any b) t → v ≡ judged any b t
   unfolding judged
-  length-good e d = d ∙ ap (λ (f : Fault). after f (ofSheet (sheetOf any b) t)) (sym (ap saysOf e) ∙ h)
+  length-good e d = d ∙ sym (short-enough (ofSheet (sheetOf any b) t) h e)
 
 -- without names: as the verdict on the bytes, whatever they are
 pub packed-judged : (b t : List ℕ) → length b ≤ 65536 → length t ≤ 65536 → judged false b t ≡ fileVerdict b t 4096 4096
 unfolding judged
 packed-judged b t h k =
-    ap (λ (f : Fault). after f (ofSheet (sheetOf false b) t))
-    (passed _ (when-passes 25 First 65536 (le-ltb 65536 (length b) h)) ∙ when-passes 25 Second 65536 (le-ltb 65536 (length t) k))
+    ap (λ (f : Fault). after f (ofSheet (sheetOf false b) t)) (lengths-good (length b) (length t) h k)
     ∙ by (sheetFault First b) refl
   where
     by : (f : Fault) → sheetFault First b ≡ f → ofSheet (unless f b) t ≡ fileVerdict b t 4096 4096

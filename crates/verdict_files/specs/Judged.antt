@@ -4,7 +4,7 @@ use mathlib.Core.Bool.{Bool}
 use mathlib.Core.List.{List}
 use Prim.Native.Nat.{ℕ}
 use lib.ListN.{length}
-use Rattle.slices.specs.declared.Part.the-variants.{First, Second}
+use Rattle.slices.specs.declared.Part.the-variants.{First}
 use Rattle.slices.specs.Refusals.{Fault, _then_, Result, given, refused, unless}
 use Rattle.slices.specs.LassoLetters.{lettersFault}
 use Rattle.fdfa.specs.Acceptance.{Verdict, verdict}
@@ -12,19 +12,8 @@ use Rattle.packed.specs.Layout.{letterCount, decode}
 use Rattle.packed.specs.Faults.{sheetFault}
 use Rattle.sheet_forms.specs.Forms.{formIn, sheetAs}
 use Rattle.console.specs.Files.{lengthsFault, after}
-use Rattle.lasso_text.specs.Reading.{Words, wordsOf, wordsIn, readFault, Sizes, sizesOf}
-
--- The text is the second file.
-abbrev pub shown : List ℕ → Result Words
-shown t = wordsOf 32 Second t
-
--- How many opening lines it has; 0 where it is not read, with that room.
-abbrev pub prefixIn : Result Sizes → ℕ
-prefixIn (given z) = z .prefix
-prefixIn (refused r) = 0
-
-abbrev pub openings : List ℕ → ℕ
-openings t = prefixIn (unless (readFault (shown t) 4096 4096) (sizesOf (wordsIn (shown t))))
+use Rattle.lasso_text.specs.Reading.{Words, wordsIn, readFault}
+use Rattle.show_files.specs.Shown.{shown}
 
 -- The verdict's own refusals of the words that were read: letters that the sheet has not.
 abbrev pub wordsFault : List ℕ → Words → Fault

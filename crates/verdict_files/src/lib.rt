@@ -6,18 +6,16 @@ use packed::Validity;
 use sheet_forms::SHEET;
 use sheet_forms::form_in;
 use sheet_forms::pack;
+use show_files::SCENES;
 use slices::Part;
 use slices::Written;
 ghost use mathlib.Core.Path.{_≡_};
-ghost use Prim.Native.Nat.{_≤_};
 ghost use lib.ListN.{length};
 ghost use Rattle.slices.specs.declared.Part.the-variants.{First};
 ghost use Rattle.slices.specs.Refusals.{sound};
 ghost use Rattle.packed.specs.Faults.{sheetFault};
 ghost use Rattle.membership.specs.Verdict.{saysOf};
-ghost use Rattle.verdict_files.specs.Judged.{openings, fileVerdict, ofSheet, sheetOf, judged};
-
-const SCENES: usize = 4096;
+ghost use Rattle.verdict_files.specs.Judged.{fileVerdict, ofSheet, sheetOf, judged};
 
 // The verdict on the show of a text, which is read into the slices.
 fn read_and_judge(sheet: &[u8], show: &[u8], opening: &mut [u8], period: &mut [u8]) -> Judgement
@@ -67,18 +65,5 @@ pub fn judge_files(any: bool, sheet: &[u8], show: &[u8]) -> Judgement
     match length {
         Length::Refused(r) => Judgement::Refused(r),
         Length::Good => judge_sheet(any, sheet, show),
-    }
-}
-
-// How many opening lines the text has.
-pub fn count_openings(show: &[u8]) -> usize
-    ensures { λ r. ⌜ (r ≡ openings (now (show .entry))) × (r ≤ 4096) ⌝ }
-{
-    let mut opening = [0u8; SCENES];
-    let mut period = [0u8; SCENES];
-    let lengths = lasso_text::read(show, Part::Second, &mut opening, &mut period);
-    match lengths {
-        Lengths::Refused(_) => 0,
-        Lengths::Filled(m, _) => m,
     }
 }

@@ -39,6 +39,7 @@ sentences =
     ∷ row 23 "the show found is longer than the room for it"
     ∷ row 24 "the cursor stands past the end of its part"
     ∷ row 25 "the file has more than 65,536 bytes"
+    ∷ row 26 "this part of the show has more than 65,536 scenes"
     ∷ []
 
 abbrev pub other : List ℕ

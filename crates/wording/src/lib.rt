@@ -2,6 +2,9 @@
 mod scenes; // scenes.rt: a refusal of a scene, in the show's text
 mod words; // words.rt: the words of a refusal
 
+pub use scenes::is_scene;
+pub use scenes::put_scene;
+pub use scenes::scene_position;
 pub use scenes::show_words;
 pub use words::WORDS;
 pub use words::refusal_words;

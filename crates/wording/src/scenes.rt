@@ -32,7 +32,7 @@ fn show_part(part: Part) -> u8
 }
 
 // Whether a refusal is of a scene.
-fn is_scene(r: Refusal) -> bool
+pub fn is_scene(r: Refusal) -> bool
     ensures { λ b. ⌜ b ≡ isScene r ⌝ }
 {
     if r.number != 9 {
@@ -46,7 +46,7 @@ fn is_scene(r: Refusal) -> bool
 }
 
 // Where it stands.
-fn scene_position(openings: usize, r: Refusal) -> Position
+pub fn scene_position(openings: usize, r: Refusal) -> Position
     requires { ⌜ (openings ≤ 4096) × (isScene r ≡ true) ⌝ }
     ensures { λ q. ⌜ q ≡ scenePosition openings r ⌝ }
 {
@@ -64,7 +64,7 @@ fn scene_position(openings: usize, r: Refusal) -> Position
 }
 
 // The name of the show's file and the line.
-fn put_scene(name: &[u8], q: Position, out: &mut [u8]) -> usize
+pub fn put_scene(name: &[u8], q: Position, out: &mut [u8]) -> usize
     requires { ⌜ length (now name) ≤ 4096 ⌝ }
     ensures { λ n. ⌜ Stored (now (out .entry)) 0 (now (name .entry) ++ linePlace q) (now (out .exit)) n ×
         (n ≤ 4139) ⌝ }

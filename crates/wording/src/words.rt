@@ -91,9 +91,9 @@ fn put_of_text(number: u8, out: &mut [u8], at: usize) -> usize
     }
 }
 
-// Of lent slices, the cursor and files.
+// Of lent slices, the cursor, files and long shows.
 fn put_of_room(number: u8, out: &mut [u8], at: usize) -> usize
-    requires { ⌜ (20 ≤ number) × (number ≤ 25) × (at ≤ 65536) ⌝ }
+    requires { ⌜ (20 ≤ number) × (number ≤ 26) × (at ≤ 65536) ⌝ }
     ensures { λ r. ⌜ Stored (now (out .entry)) at (sentence number) (now (out .exit)) r × (r ≤ at + 80) ⌝ }
 {
     match number {
@@ -110,7 +110,12 @@ fn put_of_room(number: u8, out: &mut [u8], at: usize) -> usize
         ),
         23 => put_literal(b"the show found is longer than the room for it", out, at),
         24 => put_literal(b"the cursor stands past the end of its part", out, at),
-        _ => put_literal(b"the file has more than 65,536 bytes", out, at),
+        25 => put_literal(b"the file has more than 65,536 bytes", out, at),
+        _ => put_literal(
+            b"this part of the show has more than 65,536 scenes",
+            out,
+            at,
+        ),
     }
 }
 
@@ -142,7 +147,7 @@ fn put_sentence(number: u8, out: &mut [u8], at: usize) -> usize
     if number < 20 {
         return put_other(out, at);
     }
-    if number < 26 {
+    if number < 27 {
         return put_of_room(number, out, at);
     }
     put_other(out, at)

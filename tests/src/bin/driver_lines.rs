@@ -2,7 +2,7 @@
 //!
 //! driver_lines stored STDIN STDOUT                        a stored input and output agree with what is due
 //! driver_lines random COUNT [SEED] [--driver PATH]        lines at random through one run of the driver (else FDFA_DRIVER is its path)
-//! driver_lines changes [--driver PATH]                    every change of one byte of a sheet's text at both levels, a show's and an automaton's, and long shows, in the same way
+//! driver_lines changes [--driver PATH]                    every change of one byte of a sheet's text at both levels, a show's and an automaton's, long shows and running sheets, in the same way
 //! driver_lines imports [--driver PATH]                    automata at random, imported, and verdicts on their sheets, in the same way
 //! driver_lines passes [--driver PATH]                     prefixes at random, cut into parts in every way, and verdicts on them, in the same way
 //! driver_lines long [--driver PATH]                       lines and slices of more than 64 Mi bytes and cells, in the same way
@@ -17,12 +17,13 @@ use outside::driver::coverage::Coverage;
 use outside::driver::cuts::cut_lines;
 use outside::driver::damaged_answer::{damages, KINDS};
 use outside::driver::imported::imported_lines;
+use outside::driver::long_durations::long_durations;
 use outside::driver::long_shows::long_lines;
 use outside::driver::long_slices::long_slices;
 use outside::driver::random_line::Sent;
 use outside::driver::report::Report;
 use outside::driver::session::{hold, random_lines};
-use outside::driver::{rows, stand_in, wrong_level, wrong_pass};
+use outside::driver::{rows, stand_in, wrong_durations, wrong_level, wrong_pass};
 use outside::inclusion::Search;
 use std::collections::BTreeMap;
 use std::process::{Command, ExitCode};
@@ -37,7 +38,10 @@ fn main() -> ExitCode {
     let result = match words.as_slice() {
         ["stored", input, output] => stored(input, output),
         ["random", rest @ ..] => random(rest),
-        ["changes", rest @ ..] => fixed(rest, changed_lines().chain(long_lines()), "changes of one byte, long shows"),
+        ["changes", rest @ ..] => {
+            let lines = changed_lines().chain(long_lines()).chain(long_durations());
+            fixed(rest, lines, "changes of one byte, long shows and running sheets")
+        }
         ["imports", rest @ ..] => fixed(rest, imported_lines(SEED), "automata and verdicts on their sheets"),
         ["passes", rest @ ..] => fixed(rest, cut_lines(SEED), "prefixes cut in every way and verdicts on them"),
         ["long", rest @ ..] => fixed(rest, long_slices(), "long lines and slices"),
@@ -216,17 +220,20 @@ fn find_wrong_drivers() -> Result<(), String> {
     Ok(())
 }
 
-/// Every outcome that the table of calls lists is met often, and no other; every wrong reader and writer is found.
+/// Every outcome that the table of calls lists is met often, and no other; every wrong reader, writer and running sheet is found.
 fn cover() -> Result<(), String> {
     const LINES: usize = 150_000;
     const LEAST: usize = 50;
     let began = Instant::now();
     let mut coverage = Coverage::default();
-    let mut not_found: Vec<&str> = wrong_level::kinds().collect();
+    type Wrong = fn(&str, &[u8]) -> Option<Vec<u8>>;
+    let levels = wrong_level::kinds().map(|kind| (kind, wrong_level::wrong as Wrong));
+    let durations = wrong_durations::kinds().map(|kind| (kind, wrong_durations::wrong as Wrong));
+    let mut not_found: Vec<(&str, Wrong)> = levels.chain(durations).collect();
     let (mut sent_bytes, mut due_bytes) = (0, 0);
     for sent in random_lines(SEED, LINES) {
         coverage.add(&sent.line, &sent.due);
-        not_found.retain(|kind| wrong_level::wrong(kind, &sent.line).is_none_or(|printed| printed == sent.due));
+        not_found.retain(|(kind, wrong)| wrong(kind, &sent.line).is_none_or(|printed| printed == sent.due));
         sent_bytes += sent.line.len();
         due_bytes += sent.due.len();
     }
@@ -236,7 +243,7 @@ fn cover() -> Result<(), String> {
         began.elapsed().as_secs_f64()
     );
     let mut faults = coverage.faults(LEAST);
-    faults.extend(not_found.iter().map(|kind| format!("a driver with the fault `{kind}` was not found")));
+    faults.extend(not_found.iter().map(|(kind, _)| format!("a driver with the fault `{kind}` was not found")));
     if faults.is_empty() {
         return Ok(());
     }

@@ -3,12 +3,11 @@
 //! verdict_runs PROGRAM [RUNS]
 
 use outside::driver::random_sheets::{in_order, sheet};
-use outside::driver::random_show::{any_lasso, damaged};
-use outside::printed::{self, LONGEST_FILE, SCENES};
+use outside::printed;
 use outside::program_runs::{self, Run};
 use outside::random::Random;
+use outside::random_files::{file, show_file};
 use outside::sheet::MOST;
-use outside::show_text::text_of;
 use std::process::ExitCode;
 
 /// Each must come up: the word of a verdict, or number and part of a refusal.
@@ -51,40 +50,9 @@ fn main() -> ExitCode {
     })
 }
 
-/// A file, or none, now and then about as long as the longest that is read: it goes on with these bytes again and again.
-fn file(random: &mut Random, mut bytes: Vec<u8>, more: &[u8]) -> Option<Vec<u8>> {
-    match random.below(32) {
-        0 => None,
-        1 => {
-            bytes.extend(more.iter().cycle().take(LONGEST_FILE));
-            bytes.truncate(LONGEST_FILE + random.below(2));
-            Some(bytes)
-        }
-        _ => Some(bytes),
-    }
-}
-
 fn sheet_file(random: &mut Random) -> Option<Vec<u8>> {
     let sheet = if random.once_in(3) { sheet(random) } else { in_order(random).pack() };
     file(random, sheet, b"\0")
-}
-
-fn show_file(random: &mut Random, letters: usize) -> Option<Vec<u8>> {
-    let (mut prefix, mut period) = any_lasso(random, letters);
-    for part in [&mut prefix, &mut period] {
-        // Letters that the sheet has not, but a text may have.
-        let letters = if random.once_in(10) { MOST } else { letters };
-        if random.once_in(20) {
-            part.resize(SCENES - 1 + random.below(4), random.below(letters) as u8);
-        } else if letters == MOST {
-            *part = random.word(part.len(), letters);
-        }
-    }
-    let mut text = text_of(&prefix, &period).into_bytes();
-    if random.once_in(4) {
-        text = damaged(random, text);
-    }
-    file(random, text, b"loop 0\n")
 }
 
 /// What kind of answer a text is, by the words of its second line.

@@ -24,4 +24,5 @@ pub const CALLS: &[Row] = &[
     ("write-show", texts::write_show),
     ("pass", walking::pass),
     ("import", texts::import),
+    ("durations", texts::durations),
 ];

@@ -1,4 +1,4 @@
-//! number, read, write, read-show, write-show and import.
+//! number, read, write, read-show, write-show, import and durations.
 
 use crate::by_lines::told::{filled, told};
 use crate::by_lines::{bytes, each};
@@ -56,6 +56,17 @@ pub fn import(words: &[&[u8]]) -> Result<String, NoCall> {
     let [text, mut out] = bytes(words)?;
     let call = |answer: CellsMut| library::import(Cells::from(&text), CellsMut::from(&mut out), answer);
     let answer = filled(layout::IMPORT_BYTES, call);
+    Ok(format!("{answer} | {}", print(&out)))
+}
+
+pub fn durations(words: &[&[u8]]) -> Result<String, NoCall> {
+    let [prefix, period, seconds, out] = each(words)?;
+    let ([prefix, period, mut out], seconds) = (bytes(&[prefix, period, out])?, any_slice::<u16>(seconds)?);
+    let call = |answer: CellsMut| {
+        let (prefix, period, seconds) = (Cells::from(&prefix), Cells::from(&period), Cells::from(&seconds));
+        library::durations(prefix, period, seconds, CellsMut::from(&mut out), answer)
+    };
+    let answer = filled(layout::DURATIONS_BYTES, call);
     Ok(format!("{answer} | {}", print(&out)))
 }
 

@@ -1,7 +1,7 @@
 //! The table of calls, and what the driver prints for a line.
 
 use crate::driver::line::{byte_slices, print, NoCall, LONGEST_LINE};
-use crate::driver::{boolean, cursor, imports, inclusion, membership, notation, pass, shows};
+use crate::driver::{boolean, cursor, durations, imports, inclusion, membership, notation, pass, shows};
 use crate::inclusion::Search;
 use crate::random::Random;
 use crate::sheet::{Part, Refusal};
@@ -161,6 +161,16 @@ pub const CALLS: &[Call] = &[
         outcomes: &[
             &["filled", "refused 2 first", "refused 3 first", "refused 5 first", "refused 11 first"],
             &["refused 12 first", "refused 13 first", "refused 21 out"],
+        ],
+        lent: OUT,
+    },
+    Call {
+        name: "durations",
+        answer: durations::durations,
+        random: durations::random_durations,
+        outcomes: &[
+            &["filled", "refused 9 opening", "refused 8 loop", "refused 9 loop", "refused 14 seconds"],
+            &["refused 26 opening", "refused 26 loop", "refused 21 out"],
         ],
         lent: OUT,
     },

@@ -41,14 +41,21 @@ pub fn some_seconds(random: &mut Random, letters: usize) -> Vec<u16> {
     let length = length(random, letters);
     let mut cells = seconds(random, letters);
     if random.once_in(3) {
-        for _ in 0..random.between(1, 2) {
-            cells[random.below(letters)] = bad_cell(random);
-        }
+        put_bad(random, &mut cells);
     }
     cells.truncate(length);
     let more = length - cells.len();
     cells.extend(runs(random, more, any_cell));
     cells
+}
+
+/// Puts one or two bad cells into a slice, unless it is empty: at its start, at its end, or anywhere.
+pub fn put_bad(random: &mut Random, cells: &mut [u16]) {
+    let Some(last) = cells.len().checked_sub(1) else { return };
+    for _ in 0..random.between(1, 2) {
+        let at = random.between(0, last);
+        cells[random.pick(&[0, last, at, at])] = bad_cell(random);
+    }
 }
 
 fn length(random: &mut Random, letters: usize) -> usize {

@@ -105,3 +105,8 @@ pub fn import(_: &[usize], regions: &mut [Region]) -> u32 {
     let [text, out, answer] = each(regions);
     library::import(text.cells(), out.cells_mut(), answer.cells_mut())
 }
+
+pub fn durations(_: &[usize], regions: &mut [Region]) -> u32 {
+    let [prefix, period, seconds, out, answer] = each(regions);
+    library::durations(prefix.cells(), period.cells(), seconds.cells(), out.cells_mut(), answer.cells_mut())
+}

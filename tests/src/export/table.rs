@@ -35,7 +35,7 @@ pub const COMPARE: Export = Export {
 };
 
 /// The players' two and all others, in the header's order.
-pub static EXPORTS: [Export; 19] = [
+pub static EXPORTS: [Export; 20] = [
     VERDICT,
     COMPARE,
     Export {
@@ -227,5 +227,16 @@ pub static EXPORTS: [Export; 19] = [
         due: texts::import,
         call: calls::import,
         refusals: &[&["2 first", "3 first", "5 first", "11 first", "12 first", "13 first", "21 out"]],
+    },
+    Export {
+        name: "durations",
+        answer_bytes: layout::DURATIONS_BYTES,
+        numbers: &[],
+        slices: &["opening", "loop", "seconds", "out"],
+        readable: Some([0, 1]),
+        random: texts::random_durations,
+        due: texts::durations,
+        call: calls::durations,
+        refusals: &[&["9 opening", "8 loop", "9 loop", "14 seconds"], &["26 opening", "26 loop", "21 out"]],
     },
 ];

@@ -1,11 +1,11 @@
-//! Numbers, sheets, shows and automata as texts.
+//! Numbers, sheets, shows and automata as texts, and the running sheet of a show.
 
 use crate::export::{bytes, bytes_of, cells_of, number_of, words, Given, Slice, LINE};
 use crate::inclusion::Search;
 use crate::layout::Told;
 use crate::random::Random;
 use crate::sheet::{Part, Refusal};
-use crate::{buchi_text, numeral, sheet_text, show_text};
+use crate::{buchi_text, numeral, running_sheet, sheet_text, show_text};
 
 pub fn number_read(numbers: &[usize], slices: &mut [Slice], _: &mut Search) -> Told {
     let [text] = bytes(slices);
@@ -42,6 +42,13 @@ pub fn import(_: &[usize], slices: &mut [Slice], _: &mut Search) -> Told {
     Ok(vec![buchi_text::import(text, out)?])
 }
 
+pub fn durations(_: &[usize], slices: &mut [Slice], _: &mut Search) -> Told {
+    let [Slice::Bytes(prefix), Slice::Bytes(period), Slice::Seconds(seconds), Slice::Bytes(out)] = slices else {
+        unreachable!("a call has its slices")
+    };
+    Ok(vec![running_sheet::write(prefix, period, seconds, out)?])
+}
+
 pub fn random_number_read(random: &mut Random, search: &mut Search) -> Given {
     let words = words(random, search, "number");
     Given { kind: LINE, numbers: vec![number_of(&words[1])], slices: vec![bytes_of(&words[0])] }
@@ -57,4 +64,10 @@ pub fn random_sheet_write(random: &mut Random, search: &mut Search) -> Given {
     let words = words(random, search, "write");
     let slices = vec![bytes_of(&words[1]), Slice::Seconds(cells_of(&words[2])), bytes_of(&words[3])];
     Given { kind: LINE, numbers: vec![number_of(&words[0])], slices }
+}
+
+pub fn random_durations(random: &mut Random, search: &mut Search) -> Given {
+    let words = words(random, search, "durations");
+    let [prefix, period, out] = [0, 1, 3].map(|at| bytes_of(&words[at]));
+    Given { kind: LINE, numbers: Vec::new(), slices: vec![prefix, period, Slice::Seconds(cells_of(&words[2])), out] }
 }

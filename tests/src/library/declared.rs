@@ -162,4 +162,16 @@ extern "C" {
         answer: *mut u8,
         answer_len: usize,
     ) -> u32;
+    pub fn fdfa_durations(
+        prefix: *const u8,
+        prefix_len: usize,
+        period: *const u8,
+        period_len: usize,
+        seconds: *const u16,
+        seconds_len: usize,
+        out: *mut u8,
+        out_len: usize,
+        answer: *mut u8,
+        answer_len: usize,
+    ) -> u32;
 }

@@ -7,7 +7,7 @@ use lib.Seq.{length-take-le}
 use Rattle.slices.specs.Refusals.{sound}
 use Rattle.lasso_text.specs.Reading.{wordsIn, readFault}
 use Rattle.lasso_text.proofs.Rooms.{read-refused, read-filled}
-use Rattle.verdict_files.specs.Judged.{shown}
+use Rattle.show_files.specs.Shown.{shown}
 use Rattle.verdict_files.proofs.Files.{text-refused, text-judged}
 use borrow.Author.Needs.{needs}
 use Rattle.verdict_files.proofs.read_and_judge.Statement.{statement}

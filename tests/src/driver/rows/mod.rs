@@ -2,6 +2,7 @@
 //!
 //! What is stated is written by hand, from the papers; a test holds the independent implementation to it.
 
+mod durations;
 mod forms;
 mod import_edits;
 mod import_faults;
@@ -50,6 +51,7 @@ pub fn rows() -> Vec<Row> {
     rows.extend(timed_reading::rows());
     rows.extend(timed_edits::rows());
     rows.extend(timed_writing::rows());
+    rows.extend(durations::rows());
     rows.extend(largest::rows());
     rows
 }
@@ -130,7 +132,7 @@ fn plain(letters: usize, states: usize, size: usize, mark: u8) -> String {
 mod tests {
     use super::*;
     use crate::driver::coverage::Coverage;
-    use crate::driver::{wrong_level, wrong_pass};
+    use crate::driver::{wrong_durations, wrong_level, wrong_pass};
 
     #[test]
     fn the_independent_implementation_prints_what_is_stated() {
@@ -162,11 +164,19 @@ mod tests {
 
     #[test]
     fn every_wrong_reader_and_writer_is_found() {
+        find_each(wrong_level::kinds(), wrong_level::wrong);
+    }
+
+    #[test]
+    fn every_wrong_running_sheet_is_found() {
+        find_each(wrong_durations::kinds(), wrong_durations::wrong);
+    }
+
+    fn find_each(kinds: impl Iterator<Item = &'static str>, wrong: fn(&str, &[u8]) -> Option<Vec<u8>>) {
         let rows = rows();
-        for kind in wrong_level::kinds() {
-            let found = |row: &Row| {
-                wrong_level::wrong(kind, row.line.as_bytes()).is_some_and(|printed| printed != row.stated.as_bytes())
-            };
+        for kind in kinds {
+            let found =
+                |row: &Row| wrong(kind, row.line.as_bytes()).is_some_and(|printed| printed != row.stated.as_bytes());
             assert!(rows.iter().any(found), "{kind}");
         }
     }

@@ -40,7 +40,8 @@ pub fn rows() -> Vec<Row> {
     rows
 }
 
-fn filled(text: &str, more: &str) -> String {
+/// A text that fills the out slice, and the cells behind it.
+pub(super) fn filled(text: &str, more: &str) -> String {
     format!("filled {} | {}{more}", text.len(), print(text.as_bytes()))
 }
 

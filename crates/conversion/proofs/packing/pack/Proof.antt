@@ -6,14 +6,15 @@ use lib.ListN.{length, take}
 use lib.Seq.{length-take-le}
 use denote.Ref.{now}
 use Rattle.notation.specs.Reading.{sheetIn, said}
-use Rattle.conversion.proofs.Answers.{first-byte, cells-front, packs-refused, packs-filled}
+use Rattle.notation.proofs.Taken.{first-byte, cells-front}
+use Rattle.conversion.proofs.Answers.{packs-refused, packs-filled}
 use borrow.Author.Needs.{needs}
 use Rattle.conversion.proofs.packing.pack.Statement.{statement}
 use Rattle.conversion.proofs.packing.pack.Tie as tie
 
 -- the cells that have seconds
 front : (c : tie.After-timed) → (c .timed .result ≤ length (c .before .before .before .before .before .before .before .before .before .read .last .1 .1 .0)) × (take (c .timed .result) (c .before .before .before .before .before .before .before .before .before .read .last .1 .1 .0) ≡ said (sheetIn (now (c .before .before .before .before .before .before .before .before .before .before .before .before .before .before .before .args .text))) .seconds)
-front c = cells-front (now (c .before .before .before .before .before .before .before .before .before .before .before .before .before .before .before .args .text)) (c .before .before .before .before .before .before .before .before .before .read .ensures) refl (c .before .before .before .before .answer2 .given .1) (c .before .wide .ensures) (c .timed .ensures)
+front c = cells-front (now (c .before .before .before .before .before .before .before .before .before .before .before .before .before .before .before .args .text)) (c .before .before .before .before .before .before .before .before .before .read .ensures) (c .before .before .before .before .answer2 .given .1) (c .before .wide .ensures) (c .timed .ensures)
 
 few : (c : tie.After-timed) → c .timed .result ≤ 32
 few c = omega (arith, front c .0, c .before .before .before .before .before .before .before .before .before .read .kept .1 .1 .0)
@@ -31,7 +32,7 @@ enum-known-answer-2 : tie.Need-enum-known-answer-2
 enum-known-answer-2 c = search needs
 
 slice-read-wide : tie.Need-slice-read-wide
-slice-read-wide c = first-byte (now (c .before .before .before .before .before .before .before .before .before .before .before .before .before .args .text)) (c .before .before .before .before .before .before .before .read .ensures) refl (c .before .before .answer2 .given .1)
+slice-read-wide c = first-byte (now (c .before .before .before .before .before .before .before .before .before .before .before .before .before .args .text)) (c .before .before .before .before .before .before .before .read .ensures) (c .before .before .answer2 .given .1)
 
 wide-requires : tie.Need-wide-requires
 wide-requires c κs = search needs

@@ -1,6 +1,6 @@
 -- `wording::words::put_of_room` meets its contract. Assumes nothing.
 use Rattle.wording.specs.Words.{sentence}
-use Rattle.wording.proofs.Sentences.{told, last-of-six}
+use Rattle.wording.proofs.Sentences.{told, last-of-seven}
 use borrow.Author.Needs.{needs}
 use Rattle.wording.proofs.words.put_of_room.Statement.{statement}
 use Rattle.wording.proofs.words.put_of_room.Tie as tie
@@ -40,6 +40,12 @@ slice-aggregate-put-literal-6 c = search needs
 
 put-literal-requires-6 : tie.Need-put-literal-requires-6
 put-literal-requires-6 c κs = search needs
+
+slice-aggregate-put-literal-7 : tie.Need-slice-aggregate-put-literal-7
+slice-aggregate-put-literal-7 c = search needs
+
+put-literal-requires-7 : tie.Need-put-literal-requires-7
+put-literal-requires-7 c κs = search needs
 
 same-length : tie.Need-same-length
 same-length c = search needs
@@ -81,7 +87,14 @@ same-length-6 c = search needs
 
 returns-6 : tie.Need-returns-6
 unfolding sentence
-returns-6 c = let p = c .before .before in let m = p .before .before .before in let r = m .match .rest in let s = m .before .before in told 25 (last-of-six 20 (s .args .number) (s .pre .0) (r .0 .0 .0 .0 .1) (r .0 .0 .0 .1) (r .0 .0 .1) (r .0 .1) (r .1) (s .pre .1)) (p .put-literal6 .ensures)
+returns-6 c = let p = c .before .before in told 25 (p .before .before .before .match .keys6) (p .put-literal6 .ensures)
+
+same-length-7 : tie.Need-same-length-7
+same-length-7 c = search needs
+
+returns-7 : tie.Need-returns-7
+unfolding sentence
+returns-7 c = let p = c .before .before in let m = p .before .before .before in let r = m .match .rest in let s = m .before .before in told 26 (last-of-seven 20 (s .args .number) (s .pre .0) (r .0 .0 .0 .0 .0 .1) (r .0 .0 .0 .0 .1) (r .0 .0 .0 .1) (r .0 .0 .1) (r .0 .1) (r .1) (s .pre .1)) (p .put-literal7 .ensures)
 
 pub put-of-room-spec : {M : Type 1} → statement M
 put-of-room-spec =
@@ -99,6 +112,8 @@ put-of-room-spec =
     put-literal-requires-5
     slice-aggregate-put-literal-6
     put-literal-requires-6
+    slice-aggregate-put-literal-7
+    put-literal-requires-7
     same-length
     returns
     same-length-2
@@ -110,4 +125,6 @@ put-of-room-spec =
     same-length-5
     returns-5
     same-length-6
-    returns-6)
+    returns-6
+    same-length-7
+    returns-7)

@@ -1,0 +1,15 @@
+-- What the durations program prints. Assumes nothing.
+use mathlib.Core.List.{List}
+use Prim.Native.Nat.{ℕ}
+use Rattle.slices.specs.Refusals.{Result, given, refused}
+use Rattle.console.specs.Printed.{refusalText}
+use Rattle.durations_files.specs.Decided.{decided}
+
+-- The running sheet, or the refusal.
+abbrev pub sheetText : Result (List ℕ) → List ℕ
+sheetText (given x) = x
+sheetText (refused r) = refusalText r
+
+-- What is printed for the bytes that came of two files: a sheet's text, and a show's.
+abbrev pub programText : List ℕ → List ℕ → List ℕ
+programText b t = sheetText (decided b t)

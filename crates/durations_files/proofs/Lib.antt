@@ -1,0 +1,4 @@
+pub mod Cells
+pub mod Running
+pub mod Decisions
+pub mod Laws
