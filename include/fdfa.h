@@ -305,9 +305,11 @@ uint32_t fdfa_import(const uint8_t *text, size_t text_len,
 /*
  * The running sheet of a show, to out: a line of the words `part scene seconds`; for each scene of the opening, then of
  * the loop, a line such as `opening 3 120`; a line `opening loop`; and a line of two totals, each the sum of the
- * seconds on that part's lines. Scene a lasts seconds[a], so scenes are below seconds_len, and with 256 cells or more
- * every byte is one. The text has at most 1,900,594 bytes; cells of out behind it stay. The time grows with
- * opening_len + loop_len + seconds_len. Answer: length.
+ * seconds on that part's lines. Scene a lasts seconds[a], so seconds_len is the number of scenes: of a sheet's text
+ * pass the first s cells that fdfa_sheet_read filled at level 4, where s is the packed sheet's first byte, and none at
+ * level 3. From 256 cells on every byte is a scene. 50 + 16 x opening_len + 13 x loop_len bytes of out are enough, and
+ * 1,900,594 for every show; cells of out behind the text stay. The time grows with opening_len + loop_len +
+ * seconds_len. Answer: length.
  * Refusals: 9 (opening), 8, 9 (loop), 14 (seconds; every cell is judged, that of a scene not shown too), 26 (opening,
  * else loop), 21 (out).
  */

@@ -66,15 +66,17 @@ scene() {
 
 # refuses NAME NUMBER PART PLACE
 refuses() {
-    local where
+    local where why
+    why=$(sentence "$2")
     case $3-$2 in
         second-7) where=$two ;;
         first-*) where=$(spot "$one" "$4") ;;
         second-*) where=$(spot "$two" "$4") ;;
         opening-9 | loop-9) where=$(scene "$3" "$4") ;;
+        opening-21 | loop-21) where=$two why="the $3 has more than 4,096 scenes" ;;
         *) where=$program ;;
     esac
-    says "$1" "$(refusal "$2" "$3" "$4")" "$where: refusal $2: $(sentence "$2")$nl"
+    says "$1" "$(refusal "$2" "$3" "$4")" "$where: refusal $2: $why$nl"
 }
 
 # show LINE..: the text of these lines after the names; a comma stands for the space.
@@ -115,6 +117,13 @@ drawn="[0]${nl}s0,[0]->[1]${nl}s1,[0]->[0]${nl}s0,[1]->[1]${nl}s1,[1]->[0]${nl}[
 # named FILE FILE: the arguments are these names
 named() {
     one=$1 two=$2 asked=("$1" "$2") any=yes
+}
+
+# too_long NAME NUMBER PART SPOT ARGUMENT..: the program prints and says this where a name, $long, has more than 4,096 bytes: no file has it
+long=$(zeros 5000 | tr '\0' a)
+too_long() {
+    local cut=${long:0:4096}
+    expect "$1" "refused part place$nl$2 $3 0$nl" "$cut: File name too long$nl$cut$4: refusal $2: $(sentence "$2")$nl" "$bin/$program" "${@:5}"
 }
 
 # forms_of NAME: of the packed sheet NAME its texts, NAME.txt and NAME.four

@@ -3,7 +3,7 @@ user=65534 # nobody
 as_user=(setpriv --reuid="$user" --regid="$user" --clear-groups --inh-caps=-all)
 mkdir -p "$top/tests" "$top/target/cargo/release" "$top/tmp" &&
     cp -R "$root/tests/programs" "$top/tests" &&
-    cp -R "$root/scripts" "$root/examples" "$root/docs" "$root/include" "$top" &&
+    cp -R "$root/scripts" "$root/examples" "$root/docs" "$root/include" "$root/README.md" "$top" &&
     cp -R "$bin" "$top/target/bin" || stop "$top cannot be written"
 for program in driver compare_runs verdict_runs durations_runs text_runs; do
     made=$root/target/cargo/release/$program

@@ -21,8 +21,12 @@ pub fn said(program: &str, files: &[(&str, Option<&[u8]>); 2], printed: &str) ->
             "opening" | "loop" if number == 9 => scene_place(files[1].0, files[1].1.unwrap_or_default(), part, place),
             _ => name.to_string(),
         };
-        let untimed = program == "durations" && number == 9 && part != "second" && is_level_three(files[0].1);
-        said += &if untimed { refused_untimed(&place, files[0].0) } else { refused(number, &place) };
+        let in_show = part == "opening" || part == "loop";
+        said += &match number {
+            9 if in_show && program == "durations" && is_level_three(files[0].1) => refused_untimed(&place, files[0].0),
+            21 if in_show => format!("{}: refusal 21: the {part} has more than 4,096 scenes\n", files[1].0),
+            _ => refused(number, &place),
+        };
     }
     said
 }

@@ -51,17 +51,9 @@ fn usage() {
 // Compares the files that two arguments name.
 fn compare_named(explain: bool, i: usize, j: usize) {
     let mut one = io::buffer();
-    let n = os::arg(i, &mut one);
-    if os::errno() != 0 {
-        os::fail(b"FIRST");
-        return;
-    }
+    let n = console::name_at(i, &mut one);
     let mut two = io::buffer();
-    let m = os::arg(j, &mut two);
-    if os::errno() != 0 {
-        os::fail(b"SECOND");
-        return;
-    }
+    let m = console::name_at(j, &mut two);
     compare(true, explain, &one[..n], &two[..m]);
 }
 

@@ -11,6 +11,7 @@ mod options; // options.rt: what the arguments ask for
 
 pub use files::load;
 pub use options::arguments;
+pub use options::name_at;
 pub use printing::print;
 pub use printing::print_refusal;
 pub use printing::refusal_text;

@@ -2,6 +2,7 @@
 use crate::Asked;
 use crate::Word;
 use check::same;
+ghost use Rattle.io.specs.Counts.{Counts};
 
 // What an argument is. An option has a `-` and more, and stands before `--`. One that is too long to be read is a name.
 fn word_at(i: usize, ended: bool) -> Word {
@@ -54,4 +55,15 @@ pub fn arguments() -> Asked {
         first,
         second,
     }
+}
+
+// The name at a place of the arguments. Of one that is too long as much as there is room for, which no file has.
+pub fn name_at(i: usize, name: &mut [u8]) -> usize
+    ensures { λ r. ⌜ Counts r (now (name .exit)) ⌝ }
+{
+    let n = os::arg(i, name);
+    if os::errno() == libc::ENAMETOOLONG {
+        return name.len();
+    }
+    n
 }

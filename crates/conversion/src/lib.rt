@@ -77,21 +77,10 @@ fn judge(way: Way, source: &[u8], target: &[u8], named: bool, third: &[u8]) {
     }
 }
 
-// The name at a place of the arguments. Of one that is too long as much as there is room for, which no file has.
-fn name_at(i: usize, name: &mut [u8]) -> usize
-    ensures { λ r. ⌜ Counts r (now (name .exit)) ⌝ }
-{
-    let n = os::arg(i, name);
-    if os::errno() == libc::ENAMETOOLONG {
-        return name.len();
-    }
-    n
-}
-
 // Goes on with the third name, where there is one. A target that is too long to be a name is said, and nothing is made.
 fn name_third(way: Way, source: &[u8], target: &[u8], named: bool, i: usize) {
     let mut third = io::buffer();
-    let n = name_at(i, &mut third);
+    let n = console::name_at(i, &mut third);
     if named && makes_third(way) && os::errno() != 0 {
         os::fail(b"SECONDS");
         return;
@@ -107,7 +96,7 @@ fn name_third(way: Way, source: &[u8], target: &[u8], named: bool, i: usize) {
 // is, this is said, and nothing is made.
 fn name_files(way: Way, first: usize, second: usize, named: bool, last: usize) {
     let mut source = io::buffer();
-    let n = name_at(first, &mut source);
+    let n = console::name_at(first, &mut source);
     let mut target = io::buffer();
     let m = os::arg(second, &mut target);
     if os::errno() != 0 {

@@ -6,10 +6,10 @@ use Rattle.console.specs.Printed.{refusalText}
 use Rattle.durations_files.specs.Decided.{decided}
 
 -- The running sheet, or the refusal.
-abbrev pub sheetText : Result (List ℕ) → List ℕ
-sheetText (given x) = x
-sheetText (refused r) = refusalText r
+abbrev pub answerText : Result (List ℕ) → List ℕ
+answerText (given x) = x
+answerText (refused r) = refusalText r
 
 -- What is printed for the bytes that came of two files: a sheet's text, and a show's.
 abbrev pub programText : List ℕ → List ℕ → List ℕ
-programText b t = sheetText (decided b t)
+programText b t = answerText (decided b t)

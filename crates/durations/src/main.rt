@@ -47,17 +47,9 @@ fn usage() {
 // The files that two arguments name.
 fn run_named(i: usize, j: usize) {
     let mut one = io::buffer();
-    let n = os::arg(i, &mut one);
-    if os::errno() != 0 {
-        os::fail(b"TEXT");
-        return;
-    }
+    let n = console::name_at(i, &mut one);
     let mut two = io::buffer();
-    let m = os::arg(j, &mut two);
-    if os::errno() != 0 {
-        os::fail(b"SHOW");
-        return;
-    }
+    let m = console::name_at(j, &mut two);
     run(&one[..n], &two[..m]);
 }
 

@@ -19,7 +19,7 @@ use Rattle.sheet_forms.proofs.Rooms.{text-room}
 use Rattle.sheet_forms.proofs.Results.{result-refused, result-given}
 use Rattle.sheet_forms.proofs.Answers.{fault-refused}
 use Rattle.sheet_forms.proofs.Taken.{was-refused-for}
-use Rattle.durations_files.specs.Decided.{secondsOf, cellsIn, cellCount}
+use Rattle.durations_files.specs.Decided.{secondsIn, cellsIn, cellCount}
 
 -- what was read
 module _ (t : List ℕ) {sheet cells sheet′ cells′ : List ℕ} {r : Levelled} (long : 34850 ≤ length sheet) (many : length cells ≡ 32) (h : SheetRead (sheetIn t) sheet cells sheet′ cells′ r) where
@@ -29,13 +29,13 @@ module _ (t : List ℕ) {sheet cells sheet′ cells′ : List ℕ} {r : Levelled
   pub cells-refused : {q : Refusal} → r ≡ Refused q → FillsWith (cellsIn t) cells cells′ (written.Refused q)
   cells-refused e =
       let g = read-refused h e in
-      result-refused (ap (mapped secondsOf) (fault-refused (sheetIn t) (sym judged ∙ g))) (h .times ∙ ap (λ (f : Fault). filled f (said (sheetIn t) .seconds) cells) g)
+      result-refused (ap (mapped secondsIn) (fault-refused (sheetIn t) (sym judged ∙ g))) (h .times ∙ ap (λ (f : Fault). filled f (said (sheetIn t) .seconds) cells) g)
 
   pub cells-filled : {level n first m : ℕ} → r ≡ Filled level n → first ≡ getD sheet′ 0 0 → m ≡ timed level first → FillsWith (cellsIn t) cells cells′ (written.Filled m)
   cells-filled e f k =
       let g = read-given h e in
       let y = sound-given (sheetIn t) (sym judged ∙ g .0) in
-      result-given (ap (mapped secondsOf) (y .1))
+      result-given (ap (mapped secondsIn) (y .1))
       (cells-count t h e f k ∙ ap (λ (x : Result Sheet). length (said x .seconds)) (y .1))
       (h .times ∙ (λ i. filled (g .0 i) (said (y .1 i) .seconds) cells))
 

@@ -26,7 +26,7 @@ use Rattle.show_files.proofs.Openings.{both-few}
 use Rattle.show_files.proofs.Laws.{lasso-shown, lasso-room}
 use Rattle.console.specs.Files.{after}
 use Rattle.console.proofs.Lengths.{lengths-good}
-use Rattle.durations_files.specs.Decided.{secondsOf, cellsIn, prefixOf, periodOf, running, ofCells, decided}
+use Rattle.durations_files.specs.Decided.{secondsIn, cellsIn, prefixShown, periodShown, running, ofCells, decided}
 
 then-none : (f : Fault) {g : Fault} → g ≡ sound → f then g ≡ f
 then-none sound e = e
@@ -48,12 +48,12 @@ module _ (b : List ℕ) (x : Sheet) (is : sheetIn b ≡ given x) where
 
   -- Neither 14 nor 26 is left for the running sheet.
   pub only-unknown : (t : List ℕ) → readFault (shown t) 4096 4096 ≡ sound
-      → inputFault (prefixOf t) (periodOf t) (x .seconds) ≡ lettersFault (length (x .seconds)) (prefixOf t) (periodOf t)
+      → inputFault (prefixShown t) (periodShown t) (x .seconds) ≡ lettersFault (length (x .seconds)) (prefixShown t) (periodShown t)
   unfolding inputFault
   only-unknown t read =
       let few = both-few t read in
-      then-none (lettersFault (length (x .seconds)) (prefixOf t) (periodOf t))
-      (passed _ good-cells ∙ not-long (prefixOf t) (periodOf t) (omega (arith, few .0)) (omega (arith, few .1)))
+      then-none (lettersFault (length (x .seconds)) (prefixShown t) (periodShown t))
+      (passed _ good-cells ∙ not-long (prefixShown t) (periodShown t) (omega (arith, few .0)) (omega (arith, few .1)))
 
   -- The text of a show gets the running sheet of that show.
   module _ (u v : List ℕ) (known : Readable (length (x .seconds)) u v) (o : length u ≤ 4096) (p : length v ≤ 4096) where
@@ -69,7 +69,7 @@ module _ (b : List ℕ) (x : Sheet) (is : sheetIn b ≡ given x) where
     read : readFault (shown t) 4096 4096 ≡ sound
     read = lasso-room u v readable 4096 4096 o p
 
-    nothing : inputFault (prefixOf t) (periodOf t) (x .seconds) ≡ sound
+    nothing : inputFault (prefixShown t) (periodShown t) (x .seconds) ≡ sound
     nothing =
         only-unknown t read
         ∙ (ap (λ (w : Words). lettersFault (length (x .seconds)) (w .prefix) (w .period)) is-lasso ∙ lasso-letters (length (x .seconds)) u v known)
@@ -77,11 +77,11 @@ module _ (b : List ℕ) (x : Sheet) (is : sheetIn b ≡ given x) where
     runs : running (x .seconds) t ≡ given (runningSheet u v (x .seconds))
     unfolding running
     runs =
-        ap (λ (f : Fault). unless f (runningSheet (prefixOf t) (periodOf t) (x .seconds))) (passed _ read ∙ nothing)
+        ap (λ (f : Fault). unless f (runningSheet (prefixShown t) (periodShown t) (x .seconds))) (passed _ read ∙ nothing)
         ∙ ap (λ (w : Words). given (runningSheet (w .prefix) (w .period) (x .seconds))) is-lasso
 
     pub show-decided : length b ≤ 65536 → length t ≤ 65536 → decided b t ≡ given (runningSheet u v (x .seconds))
     unfolding decided
     show-decided h k =
         ap (λ (f : Fault). after f (ofCells (cellsIn b) t)) (lengths-good (length b) (length t) h k)
-        ∙ (ap (λ (y : Result Sheet). ofCells (mapped secondsOf y) t) is ∙ runs)
+        ∙ (ap (λ (y : Result Sheet). ofCells (mapped secondsIn y) t) is ∙ runs)

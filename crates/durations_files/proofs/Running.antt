@@ -25,32 +25,32 @@ use Rattle.show_files.specs.Shown.{shown}
 use Rattle.show_files.proofs.Openings.{both-few}
 use Rattle.sheet_forms.specs.Forms.{FillsWith}
 use Rattle.sheet_forms.proofs.Results.{result-refused, result-as, result-unless}
-use Rattle.durations_files.specs.Decided.{prefixOf, periodOf, running}
+use Rattle.durations_files.specs.Decided.{prefixShown, periodShown, running}
 
 module _ (w t : List ℕ) where
   -- the show's text, or its room
   pub running-unread : {old : List ℕ} {r : Refusal} → readFault (shown t) 4096 4096 ≡ fault r → FillsWith (running w t) old old (Refused r)
   unfolding running
-  running-unread e = result-refused (ap (λ (f : Fault). unless f (runningSheet (prefixOf t) (periodOf t) w)) (failed _ e)) refl
+  running-unread e = result-refused (ap (λ (f : Fault). unless f (runningSheet (prefixShown t) (periodShown t) w)) (failed _ e)) refl
 
   module _ (read : readFault (shown t) 4096 4096 ≡ sound) where
-    lasso : Lasso 256 (prefixOf t) (periodOf t)
+    lasso : Lasso 256 (prefixShown t) (periodShown t)
     lasso = lasso-more (omega arith) (read-is 32 Second t (then-left (textFault (shown t)) _ read) .0)
 
     -- every running sheet has room
-    enough : {room : ℕ} → 131146 ≤ room → (f : Fault) → inputFault (prefixOf t) (periodOf t) w ≡ f → writeFault (prefixOf t) (periodOf t) w room ≡ f
+    enough : {room : ℕ} → 131146 ≤ room → (f : Fault) → inputFault (prefixShown t) (periodShown t) w ≡ f → writeFault (prefixShown t) (periodShown t) w room ≡ f
     enough {room} long sound e =
-        let m = measurable (prefixOf t) (periodOf t) w (sound-printable (prefixOf t) (periodOf t) w e) in
+        let m = measurable (prefixShown t) (periodShown t) w (sound-printable (prefixShown t) (periodShown t) w e) in
         passed _ e
-        ∙ when-passes 21 Out _ (le-ltb room (length (runningSheet (prefixOf t) (periodOf t) w))
-        (omega (arith, long, both-few t read .0, both-few t read .1, running-few (prefixOf t) (periodOf t) w (lasso .prefix) (lasso .period) (m .0) (m .1))))
+        ∙ when-passes 21 Out _ (le-ltb room (length (runningSheet (prefixShown t) (periodShown t) w))
+        (omega (arith, long, both-few t read .0, both-few t read .1, running-few (prefixShown t) (periodShown t) w (lasso .prefix) (lasso .period) (m .0) (m .1))))
     enough long (fault r) e = failed _ e
 
     -- what was read, as it lies in slices
-    pub running-read : {u v old out : List ℕ} {r : Written} → u ≡ prefixOf t → v ≡ periodOf t → 131146 ≤ length old
+    pub running-read : {u v old out : List ℕ} {r : Written} → u ≡ prefixShown t → v ≡ periodShown t → 131146 ≤ length old
         → Fills (writeFault u v w (length old)) (runningSheet u v w) old out r → FillsWith (running w t) old out r
     unfolding running
     running-read {old = old} e d long h =
-        let h′ : Fills (writeFault (prefixOf t) (periodOf t) w (length old)) (runningSheet (prefixOf t) (periodOf t) w) old _ _ = rw (e, d) at h in
-        result-as (ap (λ (f : Fault). unless f (runningSheet (prefixOf t) (periodOf t) w)) (sym (passed _ read)))
-        (result-unless (inputFault (prefixOf t) (periodOf t) w) (runningSheet (prefixOf t) (periodOf t) w) (fills-as (enough long _ refl) h′))
+        let h′ : Fills (writeFault (prefixShown t) (periodShown t) w (length old)) (runningSheet (prefixShown t) (periodShown t) w) old _ _ = rw (e, d) at h in
+        result-as (ap (λ (f : Fault). unless f (runningSheet (prefixShown t) (periodShown t) w)) (sym (passed _ read)))
+        (result-unless (inputFault (prefixShown t) (periodShown t) w) (runningSheet (prefixShown t) (periodShown t) w) (fills-as (enough long _ refl) h′))

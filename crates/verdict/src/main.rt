@@ -48,17 +48,9 @@ fn usage() {
 // Judges the files that two arguments name.
 fn judge_named(explain: bool, i: usize, j: usize) {
     let mut one = io::buffer();
-    let n = os::arg(i, &mut one);
-    if os::errno() != 0 {
-        os::fail(b"SHEET");
-        return;
-    }
+    let n = console::name_at(i, &mut one);
     let mut two = io::buffer();
-    let m = os::arg(j, &mut two);
-    if os::errno() != 0 {
-        os::fail(b"SHOW");
-        return;
-    }
+    let m = console::name_at(j, &mut two);
     judge(true, explain, &one[..n], &two[..m]);
 }
 

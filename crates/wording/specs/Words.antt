@@ -127,7 +127,24 @@ scenePosition m r =
     cond (eqb (showPart (r .part)) 1) (record { line = r .place + 2; column = length (bytes "opening ") + 1 })
     (record { line = m + r .place + 2; column = length (bytes "loop ") + 1 })
 
+-- A part that is longer than the 4,096 scenes that a program takes.
+abbrev pub isLong : Refusal → Bool
+isLong r = eqb (r .number) 21 && ltb 0 (showPart (r .part))
+
+abbrev pub longOpening : List ℕ
+longOpening = bytes ": refusal 21: the opening has more than 4,096 scenes\n"
+
+abbrev pub longLoop : List ℕ
+longLoop = bytes ": refusal 21: the loop has more than 4,096 scenes\n"
+
+abbrev pub longWords : List ℕ → Refusal → List ℕ
+longWords name r = cond (eqb (showPart (r .part)) 1) (name ++ longOpening) (name ++ longLoop)
+
+-- A refusal of such a part names the show's file; any other is as of two files.
+unfoldable pub partWords : List ℕ → File → File → Refusal → List ℕ
+partWords program one two r = cond (isLong r) (longWords (two .name) r) (refusalWords program one two r)
+
 -- For a program whose second file is a show's text with m opening lines.
 unfoldable pub showWords : List ℕ → File → File → ℕ → Refusal → List ℕ
 showWords program one two m r =
-    cond (isScene r) (two .name ++ linePlace (scenePosition m r) ++ reason (r .number)) (refusalWords program one two r)
+    cond (isScene r) (two .name ++ linePlace (scenePosition m r) ++ reason (r .number)) (partWords program one two r)

@@ -8,7 +8,7 @@ use Rattle.slices.specs.Refusals.{sound}
 use Rattle.lasso_text.specs.Reading.{readFault}
 use Rattle.lasso_text.proofs.Rooms.{read-refused, read-filled}
 use Rattle.show_files.specs.Shown.{shown}
-use Rattle.durations_files.specs.Decided.{prefixOf, periodOf}
+use Rattle.durations_files.specs.Decided.{prefixShown, periodShown}
 use Rattle.durations_files.proofs.Running.{running-unread, running-read}
 use borrow.Author.Needs.{needs}
 use Rattle.durations_files.proofs.write_running.Statement.{statement}
@@ -23,7 +23,7 @@ called l = l .before .before .before .before
 -- what was read lies at the front of the arrays
 filled : (l : tie.After-lengths2) → let r = called l in let t = now (start r .args .show) in
     (readFault (shown t) 4096 4096 ≡ sound) × (l .lengths2 .given .0 .0 ≤ length (r .read .last .1 .1 .0)) × (l .lengths2 .given .0 .1 .0 ≤ length (r .read .last .1 .1 .1 .0))
-    × (take (l .lengths2 .given .0 .0) (r .read .last .1 .1 .0) ≡ prefixOf t) × (take (l .lengths2 .given .0 .1 .0) (r .read .last .1 .1 .1 .0) ≡ periodOf t)
+    × (take (l .lengths2 .given .0 .0) (r .read .last .1 .1 .0) ≡ prefixShown t) × (take (l .lengths2 .given .0 .1 .0) (r .read .last .1 .1 .1 .0) ≡ periodShown t)
 filled l = read-filled (called l .read .ensures) (l .lengths2 .given .1)
 
 slice-aggregate-read : tie.Need-slice-aggregate-read

@@ -33,8 +33,8 @@ returns c =
     let s = t .before .before .before .before .before .before .before .before in
     scene-shown (now (s .args .program)) (record { name = now (s .args .one); held = now (s .args .first); lined = s .args .lined }) (record { name = now (s .args .two); held = now (s .args .show); lined = true }) (s .args .openings) (s .args .r) (sym (t .before .is-scene .ensures) ∙ t .if1 .taken) (q .scene-position .ensures) (s .pre .4) (p .put-scene .ensures) (w .put-reason .ensures)
 
-refusal-words-requires : tie.Need-refusal-words-requires
-refusal-words-requires c κs = search needs
+part-words-requires : tie.Need-part-words-requires
+part-words-requires c κs = search needs
 
 same-length-2 : tie.Need-same-length-2
 same-length-2 c = search needs
@@ -44,7 +44,7 @@ returns-2 c =
     let w = c .before .before in
     let t = w .before .before in
     let s = t .before .before .before .before .before .before .before .before in
-    other-shown (now (s .args .program)) (record { name = now (s .args .one); held = now (s .args .first); lined = s .args .lined }) (record { name = now (s .args .two); held = now (s .args .show); lined = true }) (s .args .openings) (s .args .r) (sym (t .before .is-scene .ensures) ∙ t .if1 .left) (w .refusal-words .ensures)
+    other-shown (now (s .args .program)) (record { name = now (s .args .one); held = now (s .args .first); lined = s .args .lined }) (record { name = now (s .args .two); held = now (s .args .show); lined = true }) (s .args .openings) (s .args .r) (sym (t .before .is-scene .ensures) ∙ t .if1 .left) (w .part-words .ensures)
 
 pub show-words-spec : {M : Type 1} → statement M
 show-words-spec =
@@ -56,6 +56,6 @@ show-words-spec =
     put-reason-requires
     same-length
     returns
-    refusal-words-requires
+    part-words-requires
     same-length-2
     returns-2)

@@ -1,9 +1,9 @@
--- `conversion::name_at` meets its contract. Assumes nothing.
+-- `console::options::name_at` meets its contract. Assumes nothing.
 use native.Mathlib.Omega.{arith}
 use Rattle.io.proofs.Counting.{counts}
 use borrow.Author.Needs.{needs}
-use Rattle.conversion.proofs.name_at.Statement.{statement}
-use Rattle.conversion.proofs.name_at.Tie as tie
+use Rattle.console.proofs.options.name_at.Statement.{statement}
+use Rattle.console.proofs.options.name_at.Tie as tie
 
 arg-requires : tie.Need-arg-requires
 arg-requires c κs = search needs
