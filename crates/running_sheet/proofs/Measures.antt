@@ -57,7 +57,7 @@ module _ (x w : List ℕ) where
   unfolding sum
   sum-next i = ap (λ (k : ℕ). sum k (secondsAt x w)) (add-one i)
 
--- a word lasts no longer than 999 seconds for each letter, and no line has more than 16 bytes
+-- a word lasts at most 999 seconds for each letter
 module _ {x w : List ℕ} (t : Measurable x w) where
   lasting-few : lasting x w ≤ length x * 999
   unfolding lasting
@@ -76,14 +76,14 @@ module _ (u v w : List ℕ) where
   sheet-long =
       omega (arith, sheet-parts, show-long u v w, totals-long (lasting u w) (lasting v w), length-field (lasting u w) 32, length-field (lasting v w) 10)
 
--- 16 bytes for each letter, and some
+-- at most 16 bytes for each letter, and 74
 few-lines : (name x w : List ℕ) → length name ≤ 8 → Over 256 x → Measurable x w → length (timedLines name x w) ≤ length x * 16
 unfolding timedLines
 few-lines name x w h o t =
-    omega (arith, length-rows (length x) (lineAt name x w), sum-le (length x) (λ i. length (lineAt name x w i)) 16 short)
+    omega (arith, length-rows (length x) (lineAt name x w), sum-le (length x) (λ i. length (lineAt name x w i)) 16 few)
   where
-    short : (i : ℕ) → i < length x → length (lineAt name x w i) ≤ 16
-    short i l =
+    few : (i : ℕ) → i < length x → length (lineAt name x w i) ≤ 16
+    few i l =
         omega (arith, line-long name (getD x i 0) (secondsAt x w i), length-digits (getD x i 0) (omega (arith, over-letter o i l)), length-digits (secondsAt x w i) (t .times (getD x i 0) (t .known i l)))
 
 pub running-few : (u v w : List ℕ) → Over 256 u → Over 256 v → Measurable u w → Measurable v w → length (runningSheet u v w) ≤ 74 + length u * 16 + length v * 16
