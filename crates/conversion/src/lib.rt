@@ -11,7 +11,6 @@ use slices::Refusal;
 use telling::tell;
 use unpacking::save_imported;
 use unpacking::save_unpacked;
-ghost use Rattle.io.specs.Counts.{Counts};
 
 // From text to packed sheet, or back; from the text of an automaton to the packed sheet of its family.
 pub enum Way {

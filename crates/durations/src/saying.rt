@@ -30,8 +30,8 @@ fn is_untimed(text: &[u8], r: Refusal) -> bool
 // The words for such a scene.
 fn put_untimed(one: &[u8], two: &[u8], q: Position, out: &mut [u8]) -> usize
     requires { ⌜ (length (now one) ≤ 4096) × (length (now two) ≤ 4096) × (8448 ≤ length (now out)) ⌝ }
-    ensures { λ n. ⌜ Shows (untimedWords (now (one .entry)) (now (two .entry)) q) (now (out .entry)) (now (out .exit))
-        n ⌝ }
+    ensures { λ n. ⌜ Shows (untimedWords (now (one .entry)) (now (two .entry)) q)
+        (now (out .entry)) (now (out .exit)) n ⌝ }
 {
     let spotted = put_scene(two, q, out);
     let refused = put_literal(b" refusal 9: this scene has no seconds, ", out, spotted);

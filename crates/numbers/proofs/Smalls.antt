@@ -1,13 +1,13 @@
 -- A number below 1,000 stored without a jump: a digit that is not needed is written over. Assumes nothing.
-use mathlib.Core.Path.{_≡_, refl, ap, sym, _∙_}
+use mathlib.Core.Path.{_≡_, ap, sym, _∙_}
 use mathlib.Core.Bool.{Bool, cond}
 use mathlib.Core.List.{List, [], _∷_, _++_}
-use Prim.Native.Nat.{ℕ, zero, suc, _+_, _/_, _%_, _≤_, _<_}
+use Prim.Native.Nat.{ℕ, _+_, _/_, _%_, _≤_, _<_}
 use native.Mathlib.Omega.{arith}
 use native.Mathlib.Decide.{decLt}
 use lib.Dec.{leb}
 use lib.ListN.{length, set}
-use lib.Seq.{sets, lt-length-set}
+use lib.Seq.{sets, set-set, lt-length-set}
 use borrow.Author.Tests.{le-leb, lt-leb}
 use Rattle.numbers.specs.Digits.{digitsOf, field}
 use Rattle.numbers.specs.Storing.{Stored}
@@ -35,11 +35,6 @@ small-width n h = by (decLt n 10) (decLt n 100)
 pub small-field : (n end : ℕ) → n < 1000 → length (field n end) ≡ 2 + more 10 n + more 100 n
 small-field n end h = omega (arith, length-field n end, small-width n h)
 
-set-again : (l : List ℕ) (i a b : ℕ) → set (set l i a) i b ≡ set l i b
-set-again [] i a b = refl
-set-again (x ∷ l) zero a b = refl
-set-again (x ∷ l) (suc i) a b = ap (λ (r : List ℕ). x ∷ r) (set-again l i a b)
-
 -- two, three and four bytes, one after the other
 module _ (old : List ℕ) (at a b : ℕ) where
   two : Stored old at (a ∷ b ∷ []) (set (set old at a) (at + 1) b) (at + 1 + 1)
@@ -62,14 +57,14 @@ module _ (old : List ℕ) (at n end : ℕ) {tens ones h t o : ℕ} (few : n < 10
       let q : ones ≡ at = omega (arith, d, has-not 10 n a) in
       let u : o ≡ 48 + n = omega (arith, z) in
       (λ i. stores old at (p i) (q i) h t (u i) end)
-      ∙ (ap (λ (l : List ℕ). set l (at + 1) end) (set-again (set old at h) at t (48 + n) ∙ set-again old at h (48 + n))
+      ∙ (ap (λ (l : List ℕ). set l (at + 1) end) (set-set (set old at h) at t (48 + n) ∙ set-set old at h (48 + n))
       ∙ (two old at (48 + n) end .cells ∙ ap (λ (l : List ℕ). sets old at (l ++ (end ∷ []))) (sym (digits-one n a))))
   cells (no a) (yes b) =
       let p : tens ≡ at = omega (arith, e, has-not 100 n b) in
       let q : ones ≡ at + 1 = omega (arith, d, has 10 n (omega arith)) in
       let u : t ≡ 48 + n / 10 = omega (arith, y) in
       (λ i. stores old at (p i) (q i) h (u i) (z i) end)
-      ∙ (ap (λ (l : List ℕ). set (set l (at + 1) (48 + n % 10)) (at + 1 + 1) end) (set-again old at h (48 + n / 10))
+      ∙ (ap (λ (l : List ℕ). set (set l (at + 1) (48 + n % 10)) (at + 1 + 1) end) (set-set old at h (48 + n / 10))
       ∙ (three old at (48 + n / 10) (48 + n % 10) end .cells ∙ ap (λ (l : List ℕ). sets old at (l ++ (end ∷ []))) (sym (digits-two n (omega arith) b))))
   cells (no a) (no b) =
       let p : tens ≡ at + 1 = omega (arith, e, has 100 n (omega arith)) in

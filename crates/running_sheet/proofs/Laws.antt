@@ -5,7 +5,7 @@ use Prim.Native.Nat.{ℕ, _≤_, _<_}
 use lib.ListN.{length}
 use Rattle.slices.specs.declared.Part.the-variants.{Opening, Loop, Out}
 use Rattle.slices.specs.declared.Refusal.{Refusal}
-use Rattle.slices.specs.Refusals.{Fault, sound, fault, faultOf, _then_, short}
+use Rattle.slices.specs.Refusals.{sound, fault, faultOf, short}
 use Rattle.slices.specs.LassoLetters.{lettersFault}
 use Rattle.slices.proofs.Refusals.{passed, failed}
 use Rattle.running_sheet.specs.Text.{runningSheet}

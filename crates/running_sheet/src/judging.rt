@@ -42,7 +42,8 @@ fn check_cells(prefix: &[u8], period: &[u8], seconds: &[u16]) -> Letters
 
 // The letters, of which each has a cell, then the cells and the lengths.
 pub fn check_show(prefix: &[u8], period: &[u8], seconds: &[u16]) -> Letters
-    ensures { λ r. ⌜ lettersSay r ≡ inputFault (now (prefix .entry)) (now (period .entry)) (now (seconds .entry)) ⌝ }
+    ensures { λ r. ⌜ lettersSay r
+        ≡ inputFault (now (prefix .entry)) (now (period .entry)) (now (seconds .entry)) ⌝ }
 {
     let letters = check_lasso(prefix, period, seconds.len());
     match letters {

@@ -43,7 +43,8 @@ fn put_start(start: &[u8], out: &mut [u8], at: usize) -> usize
 fn put_line(start: &[u8], letter: usize, seconds: usize, out: &mut [u8], at: usize) -> usize
     requires { ⌜ (letter < 1000) × (seconds < 1000) ×
         (at + length (timedLine (now start) letter seconds) ≤ length (now out)) ⌝ }
-    ensures { λ r. ⌜ Stored (now (out .entry)) at (timedLine (now (start .entry)) letter seconds) (now (out .exit)) r ⌝ }
+    ensures { λ r. ⌜ Stored (now (out .entry)) at (timedLine (now (start .entry)) letter seconds)
+        (now (out .exit)) r ⌝ }
 {
     let named = put_start(start, out, at);
     let lettered = put_small(letter, b' ', out, named);

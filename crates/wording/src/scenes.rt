@@ -14,7 +14,8 @@ ghost use Prim.Native.Nat.{_+_, _≤_, _<_};
 ghost use lib.ListN.{length};
 ghost use Rattle.numbers.specs.Storing.{Stored};
 ghost use Rattle.console.specs.Printed.{Shows};
-ghost use Rattle.wording.specs.Words.{linePlace, showPart, isScene, scenePosition, isLong, longWords, partWords, showWords};
+ghost use Rattle.wording.specs.Words.{linePlace, showPart, isScene, scenePosition};
+ghost use Rattle.wording.specs.Words.{isLong, longWords, partWords, showWords};
 
 // Which part of a show it is: the opening, the loop, or none.
 fn show_part(part: Part) -> u8

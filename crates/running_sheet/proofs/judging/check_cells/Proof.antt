@@ -1,5 +1,5 @@
 -- `running_sheet::judging::check_cells` meets its contract. Assumes nothing.
-use mathlib.Core.Path.{_≡_, ap, sym, _∙_}
+use mathlib.Core.Path.{ap, sym, _∙_}
 use denote.Ref.{now}
 use Rattle.slices.specs.Seconds.{timingSays}
 use Rattle.slices.proofs.Refusals.{passed, failed}

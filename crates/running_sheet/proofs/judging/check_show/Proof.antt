@@ -1,5 +1,5 @@
 -- `running_sheet::judging::check_show` meets its contract. Assumes nothing.
-use mathlib.Core.Path.{_≡_, ap, sym, _∙_}
+use mathlib.Core.Path.{ap, sym, _∙_}
 use Rattle.slices.specs.LassoLetters.{lettersSay}
 use Rattle.slices.proofs.Refusals.{passed, failed}
 use Rattle.running_sheet.specs.Writing.{inputFault}

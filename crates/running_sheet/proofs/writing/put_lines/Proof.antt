@@ -7,7 +7,7 @@ use lib.ListN.{length, getD}
 use Rattle.slices.specs.Tables.{rows}
 use Rattle.numbers.specs.Storing.{Stored}
 use Rattle.numbers.proofs.Stores.{stored-none-rows, stored-row, stored-length, stored-as}
-use Rattle.running_sheet.specs.Places.{secondsAt, timedLine, lineAt, timedLines}
+use Rattle.running_sheet.specs.Places.{timedLine, lineAt, timedLines}
 use Rattle.running_sheet.proofs.Measures.{line-within}
 use borrow.Author.Needs.{needs}
 use Rattle.running_sheet.proofs.writing.put_lines.Statement.{statement}
