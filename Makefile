@@ -2,8 +2,8 @@
 # Proofs are rt's (the Rattle toolchain): scripts/prove runs it, and says one line for each crate that is proved.
 
 # One archive is made of these libraries; each has the exports of its own crate.
-LIBRARIES = players c_sheet c_search c_text c_show c_walk
-PROGRAMS = compare verdict pack unpack import durations
+LIBRARIES = players c_sheet c_search c_text c_show c_cart c_walk
+PROGRAMS = compare verdict pack unpack import durations cart
 VERSION = 0.1.0
 
 PREFIX ?= /usr/local
@@ -32,7 +32,7 @@ all: lib programs ## the library and the programs (the default)
 
 lib: target/lib/libfdfa.a ## target/lib/libfdfa.a, for C
 
-programs: $(programs) ## target/bin/ with compare, verdict, pack, unpack, import, durations
+programs: $(programs) ## target/bin/ with compare, verdict, pack, unpack, import, durations, cart
 
 $(archives) &: $(shell scripts/sources $(LIBRARIES))
 	@scripts/prove libraries $(LIBRARIES)

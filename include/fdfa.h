@@ -55,6 +55,9 @@ typedef char fdfa_size_t_has_64_bits[sizeof(size_t) == 8 ? 1 : -1];
 #define FDFA_LONGEST_SHEET 34850
 #define FDFA_LONGEST_TEXT 109630
 
+/* The longest cart. */
+#define FDFA_LONGEST_CART 8388737
+
 /* How many bytes of answer each call takes. */
 #define FDFA_VERDICT_BYTES 48
 #define FDFA_COMPARE_BYTES 72
@@ -76,6 +79,7 @@ typedef char fdfa_size_t_has_64_bits[sizeof(size_t) == 8 ? 1 : -1];
 #define FDFA_SHOW_WRITE_BYTES 24
 #define FDFA_IMPORT_BYTES 24
 #define FDFA_DURATIONS_BYTES 24
+#define FDFA_CART_BYTES 24
 
 /* The part that a refusal concerns; a cursor is in FDFA_OPENING or FDFA_LOOP. */
 enum fdfa_part {
@@ -99,8 +103,8 @@ enum fdfa_refusal {
     FDFA_BAD_NEXT = 5,          /* a next place, or an accepting one, is not below its automaton's size; its byte */
     FDFA_BAD_MARK = 6,          /* a mark is neither 0 nor 1; its byte */
     FDFA_SCENES_DIFFER = 7,     /* two sheets have different scene counts; 0 of the second */
-    FDFA_LOOP_EMPTY = 8,        /* a loop has no scene; 0, or the text's length */
-    FDFA_SCENE_UNKNOWN = 9,     /* a scene is not below the scene count; its position, or its byte in a text */
+    FDFA_LOOP_EMPTY = 8,        /* a loop has no scene; 0, the text's length, or where it should begin */
+    FDFA_SCENE_UNKNOWN = 9,     /* a scene is not below the scene count; its position, or its byte in a text or cart */
     FDFA_BAD_LEVEL = 10,        /* the level is neither 3 nor 4; its byte, or 0 of a call that takes it as a number */
     FDFA_BAD_TEXT = 11,         /* a text departs from its layout or ends early; that byte, or the length */
     FDFA_OUT_OF_TURN = 12,      /* a row or line of a text is not one that is due; its number's byte */
@@ -111,7 +115,9 @@ enum fdfa_refusal {
     FDFA_WORK_TOO_SHORT = 22,   /* there are fewer work cells than the search needs; the cells needed */
     FDFA_SHOW_TOO_LONG = 23,    /* the show found is longer than its slice; the length needed */
     FDFA_CURSOR_OUTSIDE = 24,   /* a cursor's position is not below the length of its part; the position */
-    FDFA_PART_TOO_LONG = 26     /* a part of a show has more than 65,536 scenes; 65,536 */
+    FDFA_PART_TOO_LONG = 26,    /* a part of a show has more than 65,536 scenes; 65,536 */
+    FDFA_BAD_COUNT = 27,        /* a cart's count of shows is not from 1 to 64; 0 */
+    FDFA_BAD_CART = 28          /* a cart has not the length that its count and headers ask for; its length */
 };
 
 /* Number `index` of an answer. */
@@ -318,6 +324,22 @@ uint32_t fdfa_durations(const uint8_t *opening, size_t opening_len,
                         const uint16_t *seconds, size_t seconds_len,
                         uint8_t *out, size_t out_len,
                         uint8_t *answer, size_t answer_len);
+
+/* ---- Carts ---- */
+
+/*
+ * Loads a cart: where the sheet accepts every show of it, its cart_len bytes are copied to out, whose cells behind them
+ * stay; else out stays as it was. A cart is a count byte, from 1 to 64, then for each show the lengths of opening and
+ * loop, 16 bits each, low byte first, then its scenes, opening before loop; it has at most FDFA_LONGEST_CART bytes. The
+ * time is that of one look at every scene and of a verdict on each show up to the first that is rejected.
+ * Answer: 1 loaded and cart_len, or 0 rejected and the index of the first show that is rejected, from 0.
+ * Refusals: 1 to 6 (first), 28 (no byte), 27, 28 (second), then show by show 9 (opening), 8, 9 (loop), whose places
+ * count from the cart's first byte, 8 where the loop should begin; 21 (out).
+ */
+uint32_t fdfa_cart(const uint8_t *sheet, size_t sheet_len,
+                   const uint8_t *cart, size_t cart_len,
+                   uint8_t *out, size_t out_len,
+                   uint8_t *answer, size_t answer_len);
 
 #ifdef __cplusplus
 }

@@ -1,23 +1,27 @@
-//! Emptiness, a product and the pass.
+//! Emptiness, a product, the pass and a cart.
 
-use crate::inputs::{grouped, sheet_of_permutations, MIB};
+use crate::inputs::{grouped, sheet_around, sheet_of_permutations, MIB};
 use crate::timing::Table;
 use outside::boolean::intersection;
+use outside::cart::{self, Answer, MOST_SHOWS};
 use outside::emptiness::first_accepted;
 use outside::generate::{cycles, table as states_table, Draft, Shape};
 use outside::inclusion::{Inclusion, Search};
-use outside::layout::{inclusion_numbers, put, EMPTINESS_BYTES, INTERSECTION_BYTES, PASS_ON_BYTES};
+use outside::layout::{inclusion_numbers, put, CART_BYTES, EMPTINESS_BYTES, INTERSECTION_BYTES, PASS_ON_BYTES};
 use outside::library;
 use outside::mix::of_sizes;
 use outside::pass::{pass_on, Held};
 use outside::random::Random;
 use outside::sheet::{Part, Sheet, MOST};
+use outside::verdict::Judge;
 use std::hint::black_box;
 
 pub fn time(table: &mut Table) {
     time_emptiness(table);
     time_product(table);
     time_pass(table);
+    time_cart(table, 32_767, 32_768);
+    time_cart(table, 8, 8);
 }
 
 /// The largest sheet that is empty only because no marked place is entered; and one whose show found is among the longest.
@@ -99,6 +103,37 @@ fn time_pass(table: &mut Table) {
         let name = format!("pass, opening of 16 MiB in parts of 64 KiB, {letters} scenes, {states} places");
         table.row(&name, [0; PASS_ON_BYTES], rust, library);
     }
+}
+
+/// As many shows as a cart has, with openings and loops of these lengths; all close at once and are accepted.
+fn time_cart(table: &mut Table, before: usize, turn: usize) {
+    let mut random = Random::new(17);
+    let sheet = sheet_around(&mut random, MOST, MOST);
+    let judge = Judge::new(&sheet).expect("the sheet is in order");
+    let mut show = || loop {
+        let (prefix, mut period) = (random.word(before, MOST), random.word(turn, MOST));
+        // The leading automaton adds each letter to its state: the last one brings it back.
+        let sum: usize = period[1..].iter().map(|&letter| letter as usize).sum();
+        period[0] = ((MOST - sum % MOST) % MOST) as u8;
+        let given = judge.verdict(&prefix, &period).expect("the show is in order");
+        assert_eq!((given.before, given.turns), (0, 1));
+        if given.accepted {
+            return (prefix, period);
+        }
+    };
+    let shows: Vec<_> = (0..MOST_SHOWS).map(|_| show()).collect();
+    let cart = cart::pack(&shows);
+
+    type Lent = (Vec<u8>, [u8; CART_BYTES]);
+    let rust = |(out, answer): &mut Lent| {
+        put(answer, &cart::load(black_box(&sheet), black_box(&cart), out).map(Answer::numbers));
+    };
+    let library = |(out, answer): &mut Lent| {
+        library::cart((&sheet).into(), (&cart).into(), out.into(), answer.as_mut_slice().into());
+    };
+    let scenes = grouped(before + turn);
+    let name = format!("cart, 64 shows of {scenes} scenes, 32 scenes, 32 places, i 0, j 1, all accepted");
+    table.row(&name, (vec![0; cart.len()], [0; CART_BYTES]), rust, library);
 }
 
 fn number(answer: &[u8], at: usize) -> usize {

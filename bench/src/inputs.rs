@@ -50,7 +50,7 @@ fn progress(random: &mut Random, letters: usize, states: usize) -> Vec<(Vec<u8>,
 }
 
 /// The leading automaton adds the letter to the state, so that a period's letters say how many turns it takes.
-fn sheet_around(random: &mut Random, letters: usize, states: usize) -> Vec<u8> {
+pub fn sheet_around(random: &mut Random, letters: usize, states: usize) -> Vec<u8> {
     let cells = (0..states).flat_map(|state| (0..letters).map(move |letter| ((state + letter) % states) as u8));
     let leading = cells.collect();
     Draft { letters, leading, progress: progress(random, letters, states) }.pack()

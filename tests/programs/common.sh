@@ -19,7 +19,7 @@ stop() {
     exit 2
 }
 
-for program in compare durations import pack unpack verdict; do
+for program in cart compare durations import pack unpack verdict; do
     [ -x "$bin/$program" ] || stop "not built: $program (rt check $program)"
 done
 trap '[ -z "$top" ] || rm -rf "$top"' EXIT

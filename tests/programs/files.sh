@@ -1,4 +1,4 @@
-# The cases that import, pack and unpack share, sourced by each: what becomes of SOURCE and TARGET. The caller sets
+# The cases that cart, import, pack and unpack share, sourced by each: what becomes of SOURCE and TARGET. It is given
 #   $program   and in $top: good, a source that is taken; made, what it makes (more than 1,024 bytes); bad, a source that is refused
 #   $fault     number and place of that refusal
 #   $nothing   number of the refusal of an empty source
@@ -6,13 +6,15 @@
 #   $lined     yes where the source is lines of text
 #   $usage     what is said of a wrong number of arguments, and $too_many, the words after two that make it so
 #   $target    what the second argument is called where it is too long
+#   $one_file  what is said where the good source is the target too; nothing where that is taken
+#   $also      the arguments after source and target, if there are others
 run() {
-    "$bin/$program" "$@"
+    "$bin/$program" "$@" "${also[@]}"
 }
 
 # limited ARGUMENT..: the same where no file may grow beyond 1,024 bytes.
 limited() {
-    (trap '' XFSZ; ulimit -f 1; "$bin/$program" "$@")
+    (trap '' XFSZ; ulimit -f 1; run "$@")
 }
 
 takes() {
@@ -99,11 +101,11 @@ takes 'a new target' good target
 judge 'a new target: the source stays' cmp "$top/good" good
 yes 'something longer' | head -c 200000 > target
 takes 'a target that is longer' good target
-# of a drawing nothing would be left, so it stays
-if [ "$program" = import ]; then
+# of a drawing, or of what a cart is made of, nothing would be left, so it stays
+if [ -n "${one_file:-}" ]; then
     ln good hard
     for name in good ./good hard; do
-        expect "source and target are one: $name" '' "import: TEXT and SHEET are one file, nothing is made$nl" run good "$name"
+        expect "source and target are one: $name" '' "$one_file$nl" run good "$name"
         judge "source and target are one: $name stays" cmp "$top/good" "$name"
     done
     rm hard
@@ -159,7 +161,7 @@ done
 expect 'no name after --' '' "$usage$nl" run --
 expect 'one name after --' '' "$usage$nl" run -- good
 judge 'wrong arguments: no target is made' test ! -e none
-judge 'the usage has a line and three' test "$(echo "$usage" | wc -l)" -eq 4
+[ "$program" = cart ] || judge 'the usage has a line and three' test "$(echo "$usage" | wc -l)" -eq 4
 takes_by 'names after --' -h -- good -h
 takes_by 'a name, then --' -h good -- -h
 takes_by 'two names, then --' none good none --
@@ -207,7 +209,7 @@ expect 'what a link is to lead to grows too large' '' "to_be: File too large$nl"
 judge 'what a link is to lead to grows too large: the link stays' test "$(readlink to_be)" = "$top/missing"
 judge 'what a link is to lead to grows too large: it is empty' test ! -s "$top/missing"
 cp good both
-if [ "$program" != import ]; then
+if [ -z "${one_file:-}" ]; then
     ln -s both to_both
     expect 'a link to the source, and it grows too large' '' "to_both: File too large$nl" limited both to_both
     judge 'a link to the source, and it grows too large: it stays' cmp good both
@@ -292,17 +294,17 @@ else
     chmod 666 shut/old shut/link_to sticky/old
     chmod 1777 sticky
     chmod 555 shut
-    expect 'a folder that is shut' '' "shut/new: Permission denied$nl" as_user "$top/program" good shut/new
-    expect 'a folder that is shut, a file that is closed' '' "shut/closed: Permission denied$nl" as_user "$top/program" good shut/closed
+    expect 'a folder that is shut' '' "shut/new: Permission denied$nl" as_user "$top/program" good shut/new "${also[@]}"
+    expect 'a folder that is shut, a file that is closed' '' "shut/closed: Permission denied$nl" as_user "$top/program" good shut/closed "${also[@]}"
     judge 'a folder that is shut, a file that is closed: it stays' test "$(cat shut/closed)" = 'as before'
-    expect 'a folder that is shut, a file that grows too large' '' "shut/old: File too large$nl" as_user bash -c "trap '' XFSZ; ulimit -f 1; exec \"\$@\"" bash "$top/program" good shut/old
+    expect 'a folder that is shut, a file that grows too large' '' "shut/old: File too large$nl" as_user bash -c "trap '' XFSZ; ulimit -f 1; exec \"\$@\"" bash "$top/program" good shut/old "${also[@]}"
     judge 'a folder that is shut, a file that grows too large: it stays' test "$(cat shut/old)" = 'as before'
     yes 'as before' | head -c 200000 > shut/link_to
     cp shut/link_to "$top/long"
-    expect 'a folder that is shut, a file that is longer' '' "shut/link_to: File too large$nl" as_user bash -c "trap '' XFSZ; ulimit -f 1; exec \"\$@\"" bash "$top/program" good shut/link_to
+    expect 'a folder that is shut, a file that is longer' '' "shut/link_to: File too large$nl" as_user bash -c "trap '' XFSZ; ulimit -f 1; exec \"\$@\"" bash "$top/program" good shut/link_to "${also[@]}"
     judge 'a folder that is shut, a file that is longer: it stays' cmp "$top/long" shut/link_to
     for name in shut/old shut/link sticky/old; do
-        expect "a file that may be written, $name" '' '' as_user "$top/program" good "$name"
+        expect "a file that may be written, $name" '' '' as_user "$top/program" good "$name" "${also[@]}"
         judge "a file that may be written, $name: it is" cmp "$top/made" "$name"
     done
     judge 'what permissions forbid: nothing is left over' test "$(ls -A shut sticky | tr '\n' ' ')" = 'shut: closed link link_to old  sticky: old '
@@ -310,7 +312,7 @@ else
     echo 'as before' > open/closed
     chmod 444 open/closed
     chmod 777 open
-    expect 'a file that is closed in an open folder' '' "open/closed: Permission denied$nl" as_user "$top/program" good open/closed
+    expect 'a file that is closed in an open folder' '' "open/closed: Permission denied$nl" as_user "$top/program" good open/closed "${also[@]}"
     judge 'a file that is closed in an open folder: it stays' test "$(cat open/closed)" = 'as before'
     judge 'a file that is closed in an open folder: nothing is left over' test "$(ls -A open)" = closed
     chmod 755 shut

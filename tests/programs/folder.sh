@@ -1,5 +1,5 @@
-# What the tests of compare, verdict and durations share, sourced by each: programs that read two files, of the folder they are run in or
-# named. The caller sets $program, $one and $two, the files, and $lined, those of them that are text always. $asked has the arguments, and
+# What the tests of compare, verdict, durations and cart share, sourced by each: programs that read two files, or more, of
+# the folder they are run in or named. The caller sets $program, $one and $two, the files, and $lined, those of them that are text always. $asked has the arguments, and
 # $any says that a sheet may come in any form.
 asked=()
 any=

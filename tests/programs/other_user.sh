@@ -5,7 +5,7 @@ mkdir -p "$top/tests" "$top/target/cargo/release" "$top/tmp" &&
     cp -R "$root/tests/programs" "$top/tests" &&
     cp -R "$root/scripts" "$root/examples" "$root/docs" "$root/include" "$root/README.md" "$top" &&
     cp -R "$bin" "$top/target/bin" || stop "$top cannot be written"
-for program in driver compare_runs verdict_runs durations_runs text_runs; do
+for program in driver compare_runs verdict_runs durations_runs cart_runs text_runs; do
     made=$root/target/cargo/release/$program
     [ "$program" != driver ] || made=${FDFA_DRIVER:-$made}
     [ ! -x "$made" ] || cp "$made" "$top/target/cargo/release/$program" || stop "$top cannot be written"

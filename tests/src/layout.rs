@@ -25,6 +25,7 @@ pub const SHOW_READ_BYTES: usize = 24;
 pub const SHOW_WRITE_BYTES: usize = 24;
 pub const IMPORT_BYTES: usize = 24;
 pub const DURATIONS_BYTES: usize = 24;
+pub const CART_BYTES: usize = 24;
 
 /// The bytes of a comparison's numbers 5 to 8: where the counterexample takes the first sheet, then the second.
 pub const STANDINGS: Range<usize> = 40..72;

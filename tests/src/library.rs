@@ -158,3 +158,7 @@ pub fn durations(prefix: Cells, period: Cells, seconds: Cells<u16>, out: CellsMu
         )
     }
 }
+
+pub fn cart(sheet: Cells, cart: Cells, out: CellsMut, answer: CellsMut) -> u32 {
+    unsafe { declared::fdfa_cart(sheet.0, sheet.1, cart.0, cart.1, out.0, out.1, answer.0, answer.1) }
+}

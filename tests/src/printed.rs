@@ -64,8 +64,8 @@ fn timed(sheet: &[u8], text: &[u8]) -> Result<String, Refusal> {
     Ok(String::from_utf8(running_sheet).expect("a running sheet is text"))
 }
 
-/// Prefix and period of the show in the second file.
-fn show(text: &[u8]) -> Result<(Vec<u8>, Vec<u8>), Refusal> {
+/// Prefix and period of the show in a file that counts as the second.
+pub fn show(text: &[u8]) -> Result<(Vec<u8>, Vec<u8>), Refusal> {
     let (mut prefix, mut period) = (vec![0; SCENES], vec![0; SCENES]);
     let (before, turn) = show_text::read(text, &mut prefix, &mut period).map_err(|refusal| match refusal.part {
         Part::First => Refusal { part: Part::Second, ..refusal },

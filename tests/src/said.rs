@@ -54,7 +54,7 @@ pub fn text_place(name: &str, text: &[u8], place: usize) -> String {
 }
 
 /// A scene of a part of a show, in the show's text.
-fn scene_place(name: &str, text: &[u8], part: &str, scene: usize) -> String {
+pub fn scene_place(name: &str, text: &[u8], part: &str, scene: usize) -> String {
     let text = std::str::from_utf8(text).expect("a show's text");
     let start = format!("{part} ");
     let (line, _) =

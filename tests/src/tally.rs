@@ -42,6 +42,16 @@ const DUE_OF_COMPARE: [&str; 16] = [
     "one slice lent twice",
 ];
 
+const DUE_OF_CART: [&str; 7] = [
+    "loaded",
+    "rejected",
+    "rejected, a later show",
+    "loaded, out slice exactly as long",
+    "cart of 10,000 cells or more",
+    "NULL pointer",
+    "one slice lent twice",
+];
+
 #[derive(Default)]
 pub struct Tally {
     kinds: BTreeMap<(&'static str, &'static str), usize>,
@@ -79,6 +89,7 @@ fn due_labels(export: &Export) -> Vec<String> {
     let more: &[&str] = match export.name {
         "verdict" => &DUE_OF_VERDICT,
         "compare" => &DUE_OF_COMPARE,
+        "cart" => &DUE_OF_CART,
         _ => &["given"],
     };
     refusals.chain(DUE_OF_ALL.iter().chain(more).map(|label| label.to_string())).collect()
@@ -161,6 +172,13 @@ fn outcome_labels(case: &Case, outcome: &Outcome) -> Vec<String> {
                 add(numbers[1] > 32, "contained, more than 32 pairs reached");
             }
         },
+        (Outcome::Given(numbers), "cart") => {
+            let loaded = numbers[0] == 1;
+            add(loaded, "loaded");
+            add(loaded && case.slices[2].len() == numbers[1], "loaded, out slice exactly as long");
+            add(!loaded, "rejected");
+            add(!loaded && numbers[1] > 0, "rejected, a later show");
+        }
         (Outcome::Given(_), _) => add(true, "given"),
         (Outcome::Refused(number, part), name) => {
             add(true, &format!("refused {number} {}", part.name()));

@@ -14,29 +14,49 @@ pub struct Verdict {
 }
 
 pub fn verdict(sheet: &[u8], prefix: &[u8], period: &[u8]) -> Result<Verdict, Refusal> {
-    let sheet = Sheet::read(sheet, Part::First)?;
-    let table = Table::new(sheet.leading(), sheet.letters);
-    let mut state = table.pass(0, prefix, Part::Opening)?;
-    if period.is_empty() {
-        return Err(Refusal { number: 8, part: Part::Loop, place: 0 });
-    }
-    let mut first_turn = [None; MOST];
-    let mut turn = 0;
-    let before = loop {
-        if let Some(before) = first_turn[state as usize] {
-            break before;
-        }
-        first_turn[state as usize] = Some(turn);
-        state = table.pass(state, period, Part::Loop)?;
-        turn += 1;
-    };
-    let turns = turn - before;
+    Judge::new(sheet)?.verdict(prefix, period)
+}
 
-    let leading = state as usize;
-    let progress = sheet.progress(leading);
-    let table = Table::new(progress, sheet.letters);
-    let end = (0..turns).try_fold(0, |state, _| table.pass(state, period, Part::Loop))? as usize;
-    Ok(Verdict { accepted: progress.marks[end] == 1, before, turns, leading, end })
+/// A sheet in order, with the table of its leading automaton: it judges one lasso after the other.
+pub struct Judge<'a> {
+    sheet: Sheet<'a>,
+    leading: Table,
+}
+
+impl<'a> Judge<'a> {
+    pub fn new(sheet: &'a [u8]) -> Result<Self, Refusal> {
+        let sheet = Sheet::read(sheet, Part::First)?;
+        let leading = Table::new(sheet.leading(), sheet.letters);
+        Ok(Judge { sheet, leading })
+    }
+
+    pub fn letters(&self) -> usize {
+        self.sheet.letters
+    }
+
+    pub fn verdict(&self, prefix: &[u8], period: &[u8]) -> Result<Verdict, Refusal> {
+        let mut state = self.leading.pass(0, prefix, Part::Opening)?;
+        if period.is_empty() {
+            return Err(Refusal { number: 8, part: Part::Loop, place: 0 });
+        }
+        let mut first_turn = [None; MOST];
+        let mut turn = 0;
+        let before = loop {
+            if let Some(before) = first_turn[state as usize] {
+                break before;
+            }
+            first_turn[state as usize] = Some(turn);
+            state = self.leading.pass(state, period, Part::Loop)?;
+            turn += 1;
+        };
+        let turns = turn - before;
+
+        let leading = state as usize;
+        let progress = self.sheet.progress(leading);
+        let table = Table::new(progress, self.sheet.letters);
+        let end = (0..turns).try_fold(0, |state, _| table.pass(state, period, Part::Loop))? as usize;
+        Ok(Verdict { accepted: progress.marks[end] == 1, before, turns, leading, end })
+    }
 }
 
 /// Next states by letter, then by state: a step is one load whose address waits for the last state alone, and no index needs a check.

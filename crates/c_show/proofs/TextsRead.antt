@@ -5,8 +5,9 @@ use Prim.Native.Nat.{ℕ, _≤_, _<_}
 use lib.ListN.{length}
 use Rattle.slices.specs.Refusals.{Result}
 use Rattle.slices.specs.Filling.{written}
+use Rattle.fdfa.specs.Family.{Words}
 use Rattle.lasso_text.specs.declared.Lengths.{Lengths}
-use Rattle.lasso_text.specs.Reading.{Words, Sizes, lengthsSay, LassoRead}
+use Rattle.lasso_text.specs.Reading.{Sizes, lengthsSay, LassoRead}
 use Rattle.answers.specs.Layout.{layout, numbersOf, padded}
 use Rattle.answers.proofs.Telling.{short-old, long-new, told-short, told-long}
 use Rattle.c_show.specs.Numbers.{lassoNumbers, LassoTold}

@@ -5,7 +5,8 @@ use Prim.Native.Nat.{ℕ}
 use lib.ListN.{length}
 use Rattle.slices.specs.Refusals.{Fault, Result, unless}
 use Rattle.slices.specs.Filling.{filled}
-use Rattle.lasso_text.specs.Reading.{Words, wordsIn, readFault, Sizes, sizesOf}
+use Rattle.fdfa.specs.Family.{Words}
+use Rattle.lasso_text.specs.Reading.{wordsIn, readFault, Sizes, sizesOf}
 use Rattle.answers.specs.Layout.{numbersOf, unlessShort, Told}
 
 -- The lengths of prefix and period.

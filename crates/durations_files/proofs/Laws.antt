@@ -10,6 +10,7 @@ use Rattle.slices.specs.LassoLetters.{lettersFault}
 use Rattle.slices.specs.Seconds.{TimesFit}
 use Rattle.slices.proofs.Refusals.{passed}
 use Rattle.slices.proofs.Timings.{fit-seconds}
+use Rattle.fdfa.specs.Family.{Words}
 use Rattle.fdfa.proofs.Letters.{lasso-more, lasso-letters}
 use Rattle.packed.specs.Layout.{letterCount}
 use Rattle.notation.specs.Reading.{Sheet, sheetIn}
@@ -17,7 +18,7 @@ use Rattle.notation.specs.Writing.{Writable}
 use Rattle.notation.proofs.Laws as notation
 use Rattle.sheet_forms.proofs.Rooms.{timed-few}
 use Rattle.lasso_text.specs.Text.{lassoText, Readable}
-use Rattle.lasso_text.specs.Reading.{Words, wordsIn, readFault}
+use Rattle.lasso_text.specs.Reading.{wordsIn, readFault}
 use Rattle.running_sheet.specs.Text.{runningSheet}
 use Rattle.running_sheet.specs.Writing.{cellFault, inputFault}
 use Rattle.running_sheet.proofs.Faults.{all-cells, not-long}

@@ -42,6 +42,11 @@ abbrev pub walk : (ℕ → ℕ → ℕ) → ℕ → List ℕ → ℕ
 walk f q [] = q
 walk f q (a ∷ w) = walk f (f q a) w
 
+-- The two words of a pair, whatever their letters.
+pub record Words : Type 0 where
+  pub prefix : List ℕ
+  pub period : List ℕ
+
 -- A lasso (01: a show): a prefix u (01: the opening), which may be empty, and a period v (01: the loop), which may not.
 pub record Lasso (s : ℕ) (u v : List ℕ) : Type 0 where
   pub prefix : Over s u

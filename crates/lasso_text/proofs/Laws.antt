@@ -11,9 +11,10 @@ use Rattle.slices.specs.declared.Part.the-variants.{Out}
 use Rattle.slices.specs.Refusals.{sound, when, Result, given, refused}
 use Rattle.slices.specs.LassoLetters.{lettersFault}
 use Rattle.slices.proofs.Refusals.{passed, faulty, then-left}
+use Rattle.fdfa.specs.Family.{Words}
 use Rattle.fdfa.proofs.Letters.{letters-lasso, lasso-letters}
 use Rattle.lasso_text.specs.Text.{lassoText, Readable}
-use Rattle.lasso_text.specs.Reading.{Words, wordsOf, wordsIn, textFault, roomFault, readFault}
+use Rattle.lasso_text.specs.Reading.{wordsOf, wordsIn, textFault, roomFault, readFault}
 use Rattle.lasso_text.specs.Writing.{writeFault}
 use Rattle.lasso_text.proofs.Texts.{text-words, words-was}
 

@@ -9,6 +9,7 @@ use Rattle.slices.specs.declared.Part.{Part}
 use Rattle.slices.specs.declared.Refusal.{Refusal}
 use Rattle.slices.specs.Refusals.{Result, given, refused}
 use Rattle.slices.proofs.Refusals.{never-given}
+use Rattle.fdfa.specs.Family.{Words}
 use Rattle.numbers.specs.Storing.{Stored}
 use Rattle.format.specs.declared.Step.{Step}
 use Rattle.format.specs.declared.Step.the-variants as step
@@ -24,7 +25,7 @@ use Rattle.format.proofs.Lined.{lines-refused, lines-counted, Closed, closing-w
 use Rattle.lasso_text.specs.declared.Lengths.{Lengths}
 use Rattle.lasso_text.specs.declared.Lengths.the-variants.{Refused}
 use Rattle.lasso_text.specs.Text.{title, prefixName}
-use Rattle.lasso_text.specs.Reading.{Words, letter, ended, opened, named, wordsOf, lengthsSay}
+use Rattle.lasso_text.specs.Reading.{letter, ended, opened, named, wordsOf, lengthsSay}
 use Rattle.lasso_text.specs.Steps.{measured, WordsRead, PeriodRead}
 
 -- where the text ends, and whether it has lines of the period

@@ -12,10 +12,11 @@ use Rattle.slices.specs.Refusals.{Fault, sound, fault, when, Result, given, ref
 use Rattle.slices.specs.Filling.{filled}
 use Rattle.slices.proofs.Refusals.{when-fails, when-passes, passed, failed, was-given, was-refused, mapped-given, mapped-refused}
 use Rattle.slices.proofs.Filling.{filled-front}
+use Rattle.fdfa.specs.Family.{Words}
 use Rattle.numbers.proofs.Stores.{stored-written}
 use Rattle.lasso_text.specs.declared.Lengths.{Lengths}
 use Rattle.lasso_text.specs.declared.Lengths.the-variants.{Filled, Refused}
-use Rattle.lasso_text.specs.Reading.{Words, wordsIn, roomFault, readFault, Sizes, sizesOf, lengthsSay, LassoRead}
+use Rattle.lasso_text.specs.Reading.{wordsIn, roomFault, readFault, Sizes, sizesOf, lengthsSay, LassoRead}
 use Rattle.lasso_text.specs.Steps.{measured, WordsRead}
 
 pub unmeasured : (x : Result Words) {r : Refusal} → measured x ≡ refused r → x ≡ refused r

@@ -9,7 +9,7 @@ use Rattle.slices.specs.declared.Part.{Part}
 use Rattle.slices.specs.Refusals.{Result, given, refused}
 use Rattle.slices.proofs.Refusals.{never-given}
 use Rattle.slices.specs.Tables.{rows}
-use Rattle.fdfa.specs.Family.{Lasso}
+use Rattle.fdfa.specs.Family.{Words, Lasso}
 use Rattle.fdfa.proofs.Letters.{some-letters}
 use Rattle.numbers.proofs.Standing.{At, at-append, at-left, at-right, at-self, at-whole, row-at}
 use Rattle.format.specs.Format.{Found, stands, reading, printed, Fits, literal}
@@ -18,7 +18,7 @@ use Rattle.format.proofs.Inverse.{stands-other, stands-past, Read, reading-was,
 use Rattle.format.proofs.Fixed.{fixed-literal}
 use Rattle.format.proofs.LinesInverse.{lines-was, lines-is}
 use Rattle.lasso_text.specs.Text.{title, prefixName, periodName, letterLine, letterLines, lassoText}
-use Rattle.lasso_text.specs.Reading.{Words, letter, ended, opened, named, wordsOf}
+use Rattle.lasso_text.specs.Reading.{letter, ended, opened, named, wordsOf}
 use Rattle.lasso_text.proofs.Measures.{text-long}
 use Rattle.lasso_text.proofs.Lines.{lines, word-fits, fits-over, fits-text}
 use Rattle.lasso_text.proofs.Onward.{ended-all, ended-was}

@@ -8,6 +8,7 @@ use Rattle.slices.specs.declared.Part.{Part}
 use Rattle.slices.specs.declared.Part.the-variants.{Opening, Loop}
 use Rattle.slices.specs.Refusals.{Fault, _then_, when, Result, given, refused, unless, faultIn}
 use Rattle.slices.specs.Filling.{filled}
+use Rattle.fdfa.specs.Family.{Words}
 use Rattle.format.specs.declared.Column.{Column}
 use Rattle.format.specs.Format.{Found, reading, literal}
 use Rattle.format.specs.Rows.{below}
@@ -15,11 +16,6 @@ use Rattle.format.specs.Lines.{linesAt, closing}
 use Rattle.lasso_text.specs.declared.Lengths.{Lengths}
 use Rattle.lasso_text.specs.declared.Lengths.the-variants.{Filled, Refused}
 use Rattle.lasso_text.specs.Text.{title, prefixName, periodName}
-
--- The words of a text: prefix and period.
-pub record Words : Type 0 where
-  pub prefix : List ℕ
-  pub period : List ℕ
 
 -- A letter is below s; another is 9.
 abbrev pub letter : ℕ → Column

@@ -5,10 +5,11 @@ use Prim.Native.Nat.{ℕ}
 use lib.ListN.{length}
 use Rattle.slices.specs.Refusals.{Result, given, mapped}
 use Rattle.slices.specs.declared.Part.{Part}
+use Rattle.fdfa.specs.Family.{Words}
 use Rattle.numbers.specs.Storing.{Stored}
 use Rattle.format.specs.Format.{Found}
 use Rattle.lasso_text.specs.declared.Lengths.{Lengths}
-use Rattle.lasso_text.specs.Reading.{Words, ended, Sizes, sizesOf, lengthsSay}
+use Rattle.lasso_text.specs.Reading.{ended, Sizes, sizesOf, lengthsSay}
 
 abbrev pub measured : Result Words → Result Sizes
 measured x = mapped sizesOf x

@@ -46,7 +46,17 @@ fn prepare(fd: i32, n: usize, bytes: &[u8], held: &mut [u8]) -> bool {
     grow(fd, &bytes[m..])
 }
 
-// Opens a file, or makes it where a link leads to nothing, and makes it ready.
+// Says that a file has more bytes to be written over than can be held.
+fn say_long(path: &[u8]) {
+    io::write_all(libc::STDERR_FILENO, path);
+    io::write_all(
+        libc::STDERR_FILENO,
+        b": too long to be written over in place, nothing is made\n",
+    );
+}
+
+// Opens a file, or makes it where a link leads to nothing, and makes it ready. One that has more bytes to be written
+// over than can be held is left as it is, which is said.
 pub fn open_place(kind: u8, path: &[u8], bytes: &[u8], held: &mut [u8]) -> Staged {
     let fd = if kind == NONE {
         os::open_overwrite(path)
@@ -58,6 +68,11 @@ pub fn open_place(kind: u8, path: &[u8], bytes: &[u8], held: &mut [u8]) -> Stage
         return Staged::Failed;
     }
     let old = libc::lseek(fd, 0, libc::SEEK_END);
+    if held.len() < kept(old, bytes) {
+        say_long(path);
+        libc::close(fd);
+        return Staged::Failed;
+    }
     if !prepare(fd, kept(old, bytes), bytes, held) {
         os::fail(path);
         give_back(fd, old, bytes);

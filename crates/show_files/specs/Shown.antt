@@ -3,7 +3,8 @@ use mathlib.Core.List.{List}
 use Prim.Native.Nat.{ℕ}
 use Rattle.slices.specs.declared.Part.the-variants.{Second}
 use Rattle.slices.specs.Refusals.{Result, given, refused, unless}
-use Rattle.lasso_text.specs.Reading.{Words, wordsOf, wordsIn, readFault, Sizes, sizesOf}
+use Rattle.fdfa.specs.Family.{Words}
+use Rattle.lasso_text.specs.Reading.{wordsOf, wordsIn, readFault, Sizes, sizesOf}
 
 -- The text is the second file.
 abbrev pub shown : List ℕ → Result Words

@@ -1,6 +1,6 @@
 -- The laws of `least` and `largest`: the smallest number below the bound that passes; none is larger, and a bound on all is a
 -- bound on it. Assumes nothing.
-use mathlib.Core.Path.{_≡_, refl, ap}
+use mathlib.Core.Path.{_≡_, refl, ap, ap₂}
 use mathlib.Core.Bool.{Bool, true, false}
 use Prim.Native.Nat.{ℕ, zero, suc, max, _≤_, _<_}
 use native.Mathlib.Omega.{arith}
@@ -62,6 +62,14 @@ least-none m p none = by (decLt (least m p) m)
     by : Dec (least m p < m) → least m p ≡ m
     by (yes l) = absurd (none (least m p) l (least-passes m p l))
     by (no l) = omega (arith, least-bound m p)
+
+-- tests that agree below the bound
+pub least-same : (m : ℕ) (p q : ℕ → Bool) → ((i : ℕ) → i < m → p i ≡ q i) → least m p ≡ least m q
+unfolding least
+least-same zero p q h = refl
+least-same (suc m) p q h =
+    ap₂ (λ (t : Bool) (k : ℕ). elim t [ true ↦ zero | false ↦ suc k ]) (h 0 (omega arith))
+    (least-same m (λ i. p (suc i)) (λ i. q (suc i)) (λ i l. h (suc i) (omega arith)))
 
 pub largest-le : (m : ℕ) (f : ℕ → ℕ) (q : ℕ) → q < m → f q ≤ largest m f
 unfolding largest

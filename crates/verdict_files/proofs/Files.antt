@@ -8,12 +8,13 @@ use Rattle.slices.specs.declared.Part.the-variants.{First}
 use Rattle.slices.specs.declared.Refusal.{Refusal}
 use Rattle.slices.specs.Refusals.{Fault, sound, fault, _then_, refused, unless}
 use Rattle.slices.proofs.Refusals.{passed, failed}
+use Rattle.fdfa.specs.Family.{Words}
 use Rattle.fdfa.specs.Acceptance.{verdict}
 use Rattle.packed.specs.Layout.{decode}
 use Rattle.packed.specs.Faults.{sheetFault}
 use Rattle.membership.specs.Verdict.{lassoFault, verdictOf}
 use Rattle.lasso_text.specs.Text.{lassoText, Readable}
-use Rattle.lasso_text.specs.Reading.{Words, wordsIn, readFault}
+use Rattle.lasso_text.specs.Reading.{wordsIn, readFault}
 use Rattle.show_files.specs.Shown.{shown}
 use Rattle.show_files.proofs.Laws.{lasso-shown, lasso-room}
 use Rattle.verdict_files.specs.Judged.{wordsFault, fileVerdict}

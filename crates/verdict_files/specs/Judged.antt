@@ -7,12 +7,13 @@ use lib.ListN.{length}
 use Rattle.slices.specs.declared.Part.the-variants.{First}
 use Rattle.slices.specs.Refusals.{Fault, _then_, Result, given, refused, unless}
 use Rattle.slices.specs.LassoLetters.{lettersFault}
+use Rattle.fdfa.specs.Family.{Words}
 use Rattle.fdfa.specs.Acceptance.{Verdict, verdict}
 use Rattle.packed.specs.Layout.{letterCount, decode}
 use Rattle.packed.specs.Faults.{sheetFault}
 use Rattle.sheet_forms.specs.Forms.{formIn, sheetAs}
 use Rattle.console.specs.Files.{lengthsFault, after}
-use Rattle.lasso_text.specs.Reading.{Words, wordsIn, readFault}
+use Rattle.lasso_text.specs.Reading.{wordsIn, readFault}
 use Rattle.show_files.specs.Shown.{shown}
 
 -- The verdict's own refusals of the words that were read: letters that the sheet has not.

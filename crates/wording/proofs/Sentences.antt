@@ -30,14 +30,14 @@ look-short (row k text ∷ rest) s n = by-test (eqb n k) (bytes text) (lookUp re
 pub sentence-short : (n : ℕ) → length (sentence n) ≤ 80
 unfolding sentence
 sentence-short n =
-    look-short sentences (omega arith, (omega arith, (omega arith, (omega arith, (omega arith, (omega arith, (omega arith, (omega arith, (omega arith, (omega arith, (omega arith, (omega arith, (omega arith, (omega arith, (omega arith, (omega arith, (omega arith, (omega arith, (omega arith, (omega arith, (omega arith, tt))))))))))))))))))))) n
+    look-short sentences (omega arith, (omega arith, (omega arith, (omega arith, (omega arith, (omega arith, (omega arith, (omega arith, (omega arith, (omega arith, (omega arith, (omega arith, (omega arith, (omega arith, (omega arith, (omega arith, (omega arith, (omega arith, (omega arith, (omega arith, (omega arith, (omega arith, (omega arith, tt))))))))))))))))))))))) n
 
 -- what was stored for a number
 pub told : {old new : List ℕ} {at r n : ℕ} (k : ℕ) → n ≡ k → Stored old at (sentence k) new r → Stored old at (sentence n) new r × (r ≤ at + 80)
 told k e s = (stored-as (ap sentence (sym e)) s, omega (arith, s .next, sentence-short k))
 
 -- a number that is not in the table
-pub unlisted : (n : ℕ) → ((k : ℕ) → 1 ≤ k → k ≤ 26 → ((15 ≤ k) × (k ≤ 19) → ⊥) → n ≡ k → ⊥) → sentence n ≡ other
+pub unlisted : (n : ℕ) → ((k : ℕ) → 1 ≤ k → k ≤ 28 → ((15 ≤ k) × (k ≤ 19) → ⊥) → n ≡ k → ⊥) → sentence n ≡ other
 unfolding sentence
 unlisted n h =
     rw (
@@ -62,13 +62,18 @@ unlisted n h =
       ne-eqb n 24 (h 24 (omega arith) (omega arith) (λ p. omega arith)),
       ne-eqb n 25 (h 25 (omega arith) (omega arith) (λ p. omega arith)),
       ne-eqb n 26 (h 26 (omega arith) (omega arith) (λ p. omega arith)),
+      ne-eqb n 27 (h 27 (omega arith) (omega arith) (λ p. omega arith)),
+      ne-eqb n 28 (h 28 (omega arith) (omega arith) (λ p. omega arith)),
     )
 
-pub untold : {old new : List ℕ} {at r : ℕ} (n : ℕ) → ((k : ℕ) → 1 ≤ k → k ≤ 26 → ((15 ≤ k) × (k ≤ 19) → ⊥) → n ≡ k → ⊥) → Stored old at other new r
+pub untold : {old new : List ℕ} {at r : ℕ} (n : ℕ) → ((k : ℕ) → 1 ≤ k → k ≤ 28 → ((15 ≤ k) × (k ≤ 19) → ⊥) → n ≡ k → ⊥) → Stored old at other new r
     → Stored old at (sentence n) new r × (r ≤ at + 80)
 untold n h s = (stored-as (sym (unlisted n h)) s, omega (arith, s .next))
 
 -- the last number of a few, where it is none of the others
+pub last-of-two : (k n : ℕ) → k ≤ n → (n ≡ k → ⊥) → n ≤ k + 1 → n ≡ k + 1
+last-of-two k n low one h = omega arith
+
 module _ (k n : ℕ) (low : k ≤ n) (one : n ≡ k → ⊥) (two : n ≡ k + 1 → ⊥) (three : n ≡ k + 2 → ⊥) where
   pub last-of-four : n ≤ k + 3 → n ≡ k + 3
   last-of-four h = omega arith
@@ -95,11 +100,11 @@ look-some (row k text ∷ rest) s n = by-some (eqb n k) (bytes text) (lookUp res
 
 pub sentence-some : (n : ℕ) → 1 ≤ length (sentence n)
 unfolding sentence
-sentence-some n = look-some sentences (omega arith, (omega arith, (omega arith, (omega arith, (omega arith, (omega arith, (omega arith, (omega arith, (omega arith, (omega arith, (omega arith, (omega arith, (omega arith, (omega arith, (omega arith, (omega arith, (omega arith, (omega arith, (omega arith, (omega arith, (omega arith, tt))))))))))))))))))))) n
+sentence-some n = look-some sentences (omega arith, (omega arith, (omega arith, (omega arith, (omega arith, (omega arith, (omega arith, (omega arith, (omega arith, (omega arith, (omega arith, (omega arith, (omega arith, (omega arith, (omega arith, (omega arith, (omega arith, (omega arith, (omega arith, (omega arith, (omega arith, (omega arith, (omega arith, tt))))))))))))))))))))))) n
 
 -- The numbers of refusals.
 abbrev pub numbers : List ℕ
-numbers = 1 ∷ 2 ∷ 3 ∷ 4 ∷ 5 ∷ 6 ∷ 7 ∷ 8 ∷ 9 ∷ 10 ∷ 11 ∷ 12 ∷ 13 ∷ 14 ∷ 20 ∷ 21 ∷ 22 ∷ 23 ∷ 24 ∷ 25 ∷ 26 ∷ []
+numbers = 1 ∷ 2 ∷ 3 ∷ 4 ∷ 5 ∷ 6 ∷ 7 ∷ 8 ∷ 9 ∷ 10 ∷ 11 ∷ 12 ∷ 13 ∷ 14 ∷ 20 ∷ 21 ∷ 22 ∷ 23 ∷ 24 ∷ 25 ∷ 26 ∷ 27 ∷ 28 ∷ []
 
 -- a test of all members of a list
 all : (ℕ → Bool) → List ℕ → Bool

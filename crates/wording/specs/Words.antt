@@ -40,6 +40,8 @@ sentences =
     ∷ row 24 "the cursor stands past the end of its part"
     ∷ row 25 "the file has more than 65,536 bytes"
     ∷ row 26 "this part of the show has more than 65,536 scenes"
+    ∷ row 27 "the cart has no show, or more than 64"
+    ∷ row 28 "the cart is too short or too long"
     ∷ []
 
 abbrev pub other : List ℕ

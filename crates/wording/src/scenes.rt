@@ -1,8 +1,8 @@
 // A refusal in words where the second file is a show's text: a scene that the sheet has not is named by its line there,
 // a part that is too long by the file.
 use crate::Position;
+use crate::reasons::put_reason;
 use crate::words::put_line;
-use crate::words::put_reason;
 use crate::words::refusal_words;
 use format::put_literal;
 use slices::Part;

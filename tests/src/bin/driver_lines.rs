@@ -2,7 +2,7 @@
 //!
 //! driver_lines stored STDIN STDOUT                        a stored input and output agree with what is due
 //! driver_lines random COUNT [SEED] [--driver PATH]        lines at random through one run of the driver (else FDFA_DRIVER is its path)
-//! driver_lines changes [--driver PATH]                    every change of one byte of a sheet's text at both levels, a show's and an automaton's, long shows and running sheets, in the same way
+//! driver_lines changes [--driver PATH]                    every change of one byte of a sheet's text at both levels, a show's, an automaton's, and of a cart, long shows and running sheets, in the same way
 //! driver_lines imports [--driver PATH]                    automata at random, imported, and verdicts on their sheets, in the same way
 //! driver_lines passes [--driver PATH]                     prefixes at random, cut into parts in every way, and verdicts on them, in the same way
 //! driver_lines long [--driver PATH]                       lines and slices of more than 64 Mi bytes and cells, in the same way
@@ -23,7 +23,7 @@ use outside::driver::long_slices::long_slices;
 use outside::driver::random_line::Sent;
 use outside::driver::report::Report;
 use outside::driver::session::{hold, random_lines};
-use outside::driver::{rows, stand_in, wrong_durations, wrong_level, wrong_pass};
+use outside::driver::{rows, stand_in, wrong_carts, wrong_durations, wrong_level, wrong_pass};
 use outside::inclusion::Search;
 use std::collections::BTreeMap;
 use std::process::{Command, ExitCode};
@@ -220,7 +220,7 @@ fn find_wrong_drivers() -> Result<(), String> {
     Ok(())
 }
 
-/// Every outcome that the table of calls lists is met often, and no other; every wrong reader, writer and running sheet is found.
+/// Every outcome that the table of calls lists is met often, and no other; every wrong reader, writer, running sheet and loader is found.
 fn cover() -> Result<(), String> {
     const LINES: usize = 150_000;
     const LEAST: usize = 50;
@@ -229,7 +229,8 @@ fn cover() -> Result<(), String> {
     type Wrong = fn(&str, &[u8]) -> Option<Vec<u8>>;
     let levels = wrong_level::kinds().map(|kind| (kind, wrong_level::wrong as Wrong));
     let durations = wrong_durations::kinds().map(|kind| (kind, wrong_durations::wrong as Wrong));
-    let mut not_found: Vec<(&str, Wrong)> = levels.chain(durations).collect();
+    let carts = wrong_carts::kinds().map(|kind| (kind, wrong_carts::wrong as Wrong));
+    let mut not_found: Vec<(&str, Wrong)> = levels.chain(durations).chain(carts).collect();
     let (mut sent_bytes, mut due_bytes) = (0, 0);
     for sent in random_lines(SEED, LINES) {
         coverage.add(&sent.line, &sent.due);

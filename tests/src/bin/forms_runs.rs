@@ -3,15 +3,12 @@
 //!
 //! forms_runs PROGRAM [RUNS]
 
-use outside::buchi_text::{self, automaton_of};
-use outside::driver::{random_automaton, random_text};
+use outside::forms::{form, in_a_form, packed};
 use outside::inclusion::Search;
 use outside::mix::sheet_pair;
 use outside::printed::{self, not_too_long, refused};
 use outside::program_runs::{self, Run};
-use outside::random::Random;
-use outside::sheet::{Part, Refusal, Sheet};
-use outside::sheet_text::{sheet_of, text_of};
+use outside::sheet::{Part, Refusal};
 use std::process::ExitCode;
 
 /// Each must come up.
@@ -47,57 +44,12 @@ fn main() -> ExitCode {
     })
 }
 
-/// A good sheet in one of its forms, or an automaton with as many letters; a text is damaged now and then.
-fn in_a_form(random: &mut Random, packed: Vec<u8>) -> Vec<u8> {
-    let Ok(sheet) = Sheet::read(&packed, Part::First) else { return packed };
-    match random.below(3) {
-        0 => packed,
-        1 => {
-            let seconds: Vec<u16> = (0..sheet.letters).map(|_| random.between(1, 999) as u16).collect();
-            let text = text_of(random.between(3, 4), &sheet, &seconds).into_bytes();
-            damaged(random, text, random_text::damaged)
-        }
-        _ => {
-            let states = random.between(1, 4);
-            let text = buchi_text::text_of(&random_automaton::of_sizes(random, sheet.letters, states)).into_bytes();
-            damaged(random, text, random_automaton::damaged)
-        }
-    }
-}
-
-fn damaged(random: &mut Random, text: Vec<u8>, damage: fn(&mut Random, Vec<u8>) -> Vec<u8>) -> Vec<u8> {
-    if random.once_in(5) {
-        damage(random, text)
-    } else {
-        text
-    }
-}
-
-/// The form that the first byte tells.
-fn form(bytes: &[u8]) -> &'static str {
-    match bytes.first() {
-        Some(b'l') => "text",
-        Some(b'[') => "drawn",
-        _ => "packed",
-    }
-}
-
 fn named(bytes: &[u8], [text, packed]: [&'static str; 2]) -> &'static str {
     if form(bytes) == "packed" {
         packed
     } else {
         text
     }
-}
-
-/// The packed sheet that a file is; a text that is refused has the part of its place in the call.
-fn packed(part: Part, bytes: &[u8]) -> Result<Vec<u8>, Refusal> {
-    match form(bytes) {
-        "text" => sheet_of(bytes).map(|written| written.sheet.pack()),
-        "drawn" => automaton_of(bytes).map(|automaton| automaton.family().pack()),
-        _ => Sheet::read(bytes, part).map(|_| bytes.to_vec()),
-    }
-    .map_err(|refusal| Refusal { part, ..refusal })
 }
 
 fn compared(search: &mut Search, first: &[u8], second: &[u8]) -> Result<String, Refusal> {

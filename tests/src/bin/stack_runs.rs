@@ -1,19 +1,20 @@
-//! Every call of the library on a thread with as much stack as include/fdfa.h says: cases at random, and the largest searches, of which all
-//! that is due is compared. Prints how much of it was used at most, and how much a thread uses that does nothing.
+//! Every call of the library on a thread with as much stack as include/fdfa.h says: cases at random, the largest searches and the longest
+//! carts, of which all that is due is compared. Prints how much of it was used at most, and how much a thread uses that does nothing.
 //!
 //! stack_runs [KIB]    with so many KiB for every call instead
 
 use outside::case::Case;
 use outside::check::Checker;
-use outside::driver::rows::largest_rows;
-use outside::export::{with_work, Export, EXPORTS};
+use outside::driver::line::slice;
+use outside::driver::rows::{largest_rows, longest_carts};
+use outside::export::{with_work, Export, Slice, EXPORTS};
 use outside::random::Random;
 use outside::stack::Stack;
 use std::process::ExitCode;
 
 const CASES: usize = 300;
 const SEED: u64 = 20_261_117;
-/// 1,049,601 cells of 8 bytes: one more than a search needs.
+/// 1,049,601 cells of 8 bytes: one more than a search needs, and more than the longest cart has.
 const ROOM: usize = 1_049_601 * 8;
 
 /// The KiB of stack that a call takes at most.
@@ -22,7 +23,7 @@ fn most(name: &str) -> usize {
         "compare_in" | "emptiness" => 1280,
         "compare" => 256,
         "sheet_read" => 128,
-        "verdict" | "pass_on" => 64,
+        "verdict" | "pass_on" | "cart" => 64,
         _ => 16,
     }
 }
@@ -64,8 +65,14 @@ fn all_calls(size: Option<usize>) -> Result<(), String> {
     Ok(())
 }
 
-/// The largest searches of the stored lines, where the call is one of the two.
+/// The largest searches of the stored lines, where the call is one of the two; or the longest carts.
 fn largest_cases(export: &'static Export) -> Vec<Case> {
+    if export.name == "cart" {
+        let bytes = |word: &str| Slice::Bytes(slice(word.as_bytes()).expect("a row has its slices"));
+        let of_line = |line: &str| Case::of_slices(export, line.split(' ').skip(1).map(bytes).collect());
+        let rows = longest_carts().into_iter().filter(|row| row.line.starts_with("cart "));
+        return rows.map(|row| of_line(&row.line)).collect();
+    }
     let name = export.name.trim_end_matches("_in");
     let of_line = |line: String| {
         let mut words = line.split(' ').map(str::to_string);

@@ -1,9 +1,9 @@
-//! check, verdict, complement, intersection and union.
+//! check, verdict, complement, intersection, union and cart.
 
 use crate::by_lines::bytes;
 use crate::by_lines::told::{filled, told};
 use crate::driver::line::{print, NoCall};
-use crate::layout::{CHECK_BYTES, COMPLEMENT_BYTES, INTERSECTION_BYTES, UNION_BYTES, VERDICT_BYTES};
+use crate::layout::{CART_BYTES, CHECK_BYTES, COMPLEMENT_BYTES, INTERSECTION_BYTES, UNION_BYTES, VERDICT_BYTES};
 use crate::library::{self, Cells, CellsMut};
 
 pub fn check(words: &[&[u8]]) -> Result<String, NoCall> {
@@ -49,5 +49,17 @@ fn product(
     let [first, second, mut out] = bytes(words)?;
     let call = |answer: CellsMut| product(Cells::from(&first), Cells::from(&second), CellsMut::from(&mut out), answer);
     let answer = filled(answer_bytes, call);
+    Ok(format!("{answer} | {}", print(&out)))
+}
+
+pub fn cart(words: &[&[u8]]) -> Result<String, NoCall> {
+    let [sheet, cart, mut out] = bytes(words)?;
+    let call =
+        |answer: CellsMut| library::cart(Cells::from(&sheet), Cells::from(&cart), CellsMut::from(&mut out), answer);
+    let answer = told(CART_BYTES, call, |numbers| match numbers[0] {
+        0 => format!("rejected {}", numbers[1]),
+        1 => format!("loaded {}", numbers[1]),
+        other => panic!("a cart is loaded, 1, or not, 0, not {other}"),
+    });
     Ok(format!("{answer} | {}", print(&out)))
 }

@@ -25,4 +25,5 @@ pub const CALLS: &[Row] = &[
     ("pass", walking::pass),
     ("import", texts::import),
     ("durations", texts::durations),
+    ("cart", sheets::cart),
 ];

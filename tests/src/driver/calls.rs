@@ -1,7 +1,7 @@
 //! The table of calls, and what the driver prints for a line.
 
 use crate::driver::line::{byte_slices, print, NoCall, LONGEST_LINE};
-use crate::driver::{boolean, cursor, durations, imports, inclusion, membership, notation, pass, shows};
+use crate::driver::{boolean, carts, cursor, durations, imports, inclusion, membership, notation, pass, shows};
 use crate::inclusion::Search;
 use crate::random::Random;
 use crate::sheet::{Part, Refusal};
@@ -171,6 +171,18 @@ pub const CALLS: &[Call] = &[
         outcomes: &[
             &["filled", "refused 9 opening", "refused 8 loop", "refused 9 loop", "refused 14 seconds"],
             &["refused 26 opening", "refused 26 loop", "refused 21 out"],
+        ],
+        lent: OUT,
+    },
+    Call {
+        name: "cart",
+        answer: carts::cart,
+        random: carts::random_cart,
+        outcomes: &[
+            &["loaded", "rejected"],
+            FIRST,
+            &["refused 28 second", "refused 27 second", "refused 9 opening", "refused 8 loop", "refused 9 loop"],
+            &["refused 21 out"],
         ],
         lent: OUT,
     },

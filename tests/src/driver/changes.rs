@@ -1,5 +1,6 @@
 //! Every change of one byte of some texts: sheet B's at level three, which is 01's, and at level four for `read`, a show's text of ten lines
-//! for `read-show`, and for `import` automata of five places, of twelve, and of twelve scenes.
+//! for `read-show`, and for `import` automata of five places, of twelve, and of twelve scenes. The same of a cart of three shows for `cart`
+//! with sheet B.
 
 use crate::driver::calls::answer;
 use crate::driver::line::print;
@@ -8,14 +9,18 @@ use crate::driver::rows::{FIVE_PLACES, FOUR_OF_B, TEN_LINES, TEXT_OF_B};
 use crate::inclusion::Search;
 
 /// Each text with its call, and slices that have room for one cell more than it fills.
-const TEXTS: [(&str, &str, &str); 6] = [
+const TEXTS: [(&str, &str, &str); 7] = [
     ("read", TEXT_OF_B, "12*9 3*8"),
     ("read-show", TEN_LINES, "5*8 6*9"),
     ("import", FIVE_PLACES, "168*9"),
     ("import", TWELVE_PLACES, "603*9"),
     ("import", TWELVE_SCENES, "42*9"),
     ("read", FOUR_OF_B, "12*9 3*8"),
+    ("cart 2,1,2,0,0,1,0,1,1,0,1", CART, "21*9"),
 ];
+
+/// The shows (-, 0), (1, 1 0) and (0 1, 0): 1 + 5 + 7 + 7 = 20 bytes.
+const CART: &str = "\x03\x00\x00\x01\x00\x00\x01\x00\x02\x00\x01\x01\x00\x02\x00\x01\x00\x00\x01\x00";
 
 /// Texts with numbers of two digits.
 const TWELVE_PLACES: &str =
@@ -98,6 +103,24 @@ mod tests {
         // Cut off after the names or an opening line; after a loop line; elsewhere.
         let cut = counts([("refused 8", 5), ("filled", 4), ("refused 11", 81)]);
         assert_eq!(outcomes[3], cut);
+    }
+
+    /// Counted by hand. B accepts a loop that has scene 0: in each loop there is one.
+    #[test]
+    fn the_changes_of_the_cart_have_the_outcomes_counted_by_hand() {
+        // Every byte as itself; another scene in two openings, of three scenes in all, and the first of the second loop.
+        let loaded = 20 + 3 + 1;
+        // Of each loop the scene 0 as 1; a scene above 1; the counts 0 and from 65 on; other counts, and other lengths.
+        let (rejected, unknown, count) = (3, 7 * 254, 1 + 191);
+        let length = 63 + 12 * 255;
+        let outcomes = outcomes(6);
+        let changes = [("loaded", loaded), ("rejected", rejected), ("refused 9", unknown)];
+        let changes = [&changes[..], &[("refused 27", count), ("refused 28", length)]].concat();
+        assert_eq!(outcomes[0], counts::<5>(changes.try_into().unwrap()));
+        // Without the count, the first byte of the lengths is one: 0. Without its low byte the length of the first loop, and
+        // of the last, is its high byte and the scene after it: 0.
+        assert_eq!(outcomes[2], counts([("refused 27", 1), ("refused 8", 2), ("refused 28", 17)]));
+        assert_eq!(outcomes[3], counts([("refused 28", 20)]));
     }
 
     /// Counted by hand, from the scenes 0 and 1, the sources 0 to 4, ten targets, of which two are 0, and the accepting places 0 and 3.

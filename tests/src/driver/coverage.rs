@@ -1,6 +1,7 @@
 //! How often each outcome of each call is met.
 
 use crate::driver::calls::{Call, CALLS};
+use crate::driver::line::slice;
 use std::collections::{BTreeMap, BTreeSet};
 use std::fmt;
 
@@ -19,6 +20,14 @@ const LATER_PART: &str = ", in a later part";
 /// Added where a text was to be written at that level.
 const LEVEL_3: &str = ", level three";
 const LEVEL_4: &str = ", level four";
+/// Added where a cart has as many shows as it may have; where a later show than the first was rejected or refused; where
+/// a loop should begin at the cart's end; where the count was 0, or too large; where the cart had no byte.
+const ALL_SHOWS: &str = ", 64 shows";
+const LATER_SHOW: &str = ", a later show";
+const AT_THE_END: &str = ", at the cart's end";
+const NO_SHOW: &str = ", no show";
+const TOO_MANY: &str = ", more than 64 shows";
+const EMPTY_CART: &str = ", an empty cart";
 
 #[derive(Default)]
 pub struct Coverage {
@@ -39,7 +48,8 @@ impl Coverage {
                 Some(outcome) => {
                     self.count(call.name, outcome);
                     let room = room(call, line, &due).filter(|_| needs_room(outcome));
-                    for more in room.into_iter().chain(apart(&due)).chain(passed(line, &due)).chain(level(line)) {
+                    let more = room.into_iter().chain(apart(&due)).chain(passed(line, &due)).chain(level(line));
+                    for more in more.chain(of_cart(line, &due)) {
                         self.count(call.name, &format!("{outcome}{more}"));
                     }
                 }
@@ -69,6 +79,11 @@ impl Coverage {
                     (_, "unknown") => &[LATER_PART],
                     ("write", "refused 14 seconds" | "refused 21 seconds") => &[LEVEL_4],
                     ("write", outcome) if outcome != "refused 10 first" => &[LEVEL_3, LEVEL_4],
+                    ("cart", "loaded") => &[ALL_SHOWS],
+                    ("cart", "rejected" | "refused 9 opening" | "refused 9 loop") => &[LATER_SHOW],
+                    ("cart", "refused 8 loop") => &[LATER_SHOW, AT_THE_END],
+                    ("cart", "refused 27 second") => &[NO_SHOW, TOO_MANY],
+                    ("cart", "refused 28 second") => &[EMPTY_CART],
                     _ => continue,
                 };
                 due.extend(more.iter().map(|more| (call.name, format!("{outcome}{more}"))));
@@ -90,7 +105,7 @@ fn outcome(call: &Call, due: &str) -> Option<&'static str> {
 
 fn needs_room(outcome: &str) -> bool {
     let refused = ["refused 21", "refused 22", "refused 23"].iter().any(|refused| outcome.starts_with(refused));
-    refused || ["filled", "filled 3", "filled 4", "missing", "found"].contains(&outcome)
+    refused || ["filled", "filled 3", "filled 4", "missing", "found", "loaded"].contains(&outcome)
 }
 
 /// Whether the lent slices that the answer speaks of are exactly as long as needed, or the one refused is one cell too short.
@@ -114,7 +129,7 @@ fn room(call: &Call, line: &[u8], due: &str) -> Option<&'static str> {
             let needed = [number(2)?, if words[1] == "4" { letters.parse().ok()? } else { lengths[1] }];
             (lengths == needed).then_some(JUST_ENOUGH)
         }
-        "filled" => (0..lengths.len()).all(|at| number(1 + at) == Some(lengths[at])).then_some(JUST_ENOUGH),
+        "filled" | "loaded" => (0..lengths.len()).all(|at| number(1 + at) == Some(lengths[at])).then_some(JUST_ENOUGH),
         "missing" | "found" => ((lengths[0], lengths[1]) == (number(2)?, number(3)?)).then_some(JUST_ENOUGH),
         _ => None,
     }
@@ -151,6 +166,28 @@ fn level(line: &[u8]) -> Option<&'static str> {
         b"write 4 " => Some(LEVEL_4),
         _ => None,
     }
+}
+
+/// What more is told of a line with a cart.
+fn of_cart(line: &[u8], due: &str) -> Vec<&'static str> {
+    let words: Vec<&[u8]> = line.split(|&byte| byte == b' ').collect();
+    let [b"cart", _, cart, _] = words[..] else { return Vec::new() };
+    let cart: Vec<u8> = slice(cart).expect("it was taken");
+    let due: Vec<&str> = due.split(' ').collect();
+    let number = |at: usize| due[at].parse::<usize>().expect("an answer has its numbers");
+    let labels = match due[..2] {
+        ["loaded", _] => [(cart[0] == 64, ALL_SHOWS)].to_vec(),
+        ["rejected", _] => [(number(1) > 0, LATER_SHOW)].to_vec(),
+        ["refused", "27"] => [(cart[0] == 0, NO_SHOW), (cart[0] > 0, TOO_MANY)].to_vec(),
+        ["refused", "28"] => [(cart.is_empty(), EMPTY_CART)].to_vec(),
+        ["refused", "8" | "9"] => {
+            let lengths = [1, 3].map(|at| u16::from_le_bytes([cart[at], cart[at + 1]]) as usize);
+            let first_end = 5 + lengths[0] + lengths[1];
+            [(number(3) > first_end, LATER_SHOW), (number(3) == cart.len(), AT_THE_END)].to_vec()
+        }
+        _ => Vec::new(),
+    };
+    labels.into_iter().filter(|label| label.0).map(|label| label.1).collect()
 }
 
 /// How many cells a slice has, as it is spelled.

@@ -36,7 +36,7 @@ pub fn faulty_pair(random: &mut Random) -> (Vec<u8>, Vec<u8>) {
 }
 
 /// A sheet with one fault or several: each of refusals 1 to 6 is put where it would be found.
-fn faulty(random: &mut Random) -> Vec<u8> {
+pub fn faulty(random: &mut Random) -> Vec<u8> {
     let mut draft = in_order(random);
     let mut faults = [false; 7];
     faults[random.between(1, 6)] = true;

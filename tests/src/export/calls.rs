@@ -110,3 +110,8 @@ pub fn durations(_: &[usize], regions: &mut [Region]) -> u32 {
     let [prefix, period, seconds, out, answer] = each(regions);
     library::durations(prefix.cells(), period.cells(), seconds.cells(), out.cells_mut(), answer.cells_mut())
 }
+
+pub fn cart(_: &[usize], regions: &mut [Region]) -> u32 {
+    let [sheet, cart, out, answer] = each(regions);
+    library::cart(sheet.cells(), cart.cells(), out.cells_mut(), answer.cells_mut())
+}

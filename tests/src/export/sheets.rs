@@ -1,6 +1,7 @@
-//! check, complement, intersection and union.
+//! check, complement, intersection, union and cart.
 
 use crate::boolean;
+use crate::cart::{load, Answer};
 use crate::export::{bytes, Slice};
 use crate::inclusion::Search;
 use crate::layout::Told;
@@ -24,4 +25,9 @@ pub fn intersection(_: &[usize], slices: &mut [Slice], _: &mut Search) -> Told {
 pub fn union(_: &[usize], slices: &mut [Slice], _: &mut Search) -> Told {
     let [first, second, out] = bytes(slices);
     Ok(vec![boolean::union(first, second, out)?])
+}
+
+pub fn cart(_: &[usize], slices: &mut [Slice], _: &mut Search) -> Told {
+    let [sheet, cart, out] = bytes(slices);
+    load(sheet, cart, out).map(Answer::numbers)
 }

@@ -35,7 +35,7 @@ pub const COMPARE: Export = Export {
 };
 
 /// The players' two and all others, in the header's order.
-pub static EXPORTS: [Export; 20] = [
+pub static EXPORTS: [Export; 21] = [
     VERDICT,
     COMPARE,
     Export {
@@ -238,5 +238,16 @@ pub static EXPORTS: [Export; 20] = [
         due: texts::durations,
         call: calls::durations,
         refusals: &[&["9 opening", "8 loop", "9 loop", "14 seconds"], &["26 opening", "26 loop", "21 out"]],
+    },
+    Export {
+        name: "cart",
+        answer_bytes: layout::CART_BYTES,
+        numbers: &[],
+        slices: &["sheet", "cart", "out"],
+        readable: Some([0, 1]),
+        random: |random, search| of_bytes(random, search, "cart"),
+        due: sheets::cart,
+        call: calls::cart,
+        refusals: &[FIRST, &["28 second", "27 second"], &["9 opening", "8 loop", "9 loop", "21 out"]],
     },
 ];

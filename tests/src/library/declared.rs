@@ -174,4 +174,14 @@ extern "C" {
         answer: *mut u8,
         answer_len: usize,
     ) -> u32;
+    pub fn fdfa_cart(
+        sheet: *const u8,
+        sheet_len: usize,
+        cart: *const u8,
+        cart_len: usize,
+        out: *mut u8,
+        out_len: usize,
+        answer: *mut u8,
+        answer_len: usize,
+    ) -> u32;
 }

@@ -2,6 +2,8 @@
 //!
 //! What is stated is written by hand, from the papers; a test holds the independent implementation to it.
 
+mod cart_faults;
+mod carts;
 mod durations;
 mod forms;
 mod import_edits;
@@ -24,6 +26,7 @@ use crate::driver::line::print;
 use crate::inclusion::Search;
 use crate::rows::{complemented, A, B, C, D, E, HALL, LEFT, RIGHT};
 
+pub use carts::longest as longest_carts;
 pub use import_edits::FIVE_PLACES;
 pub use largest::rows as largest_rows;
 pub use shows::TEN_LINES;
@@ -52,6 +55,8 @@ pub fn rows() -> Vec<Row> {
     rows.extend(timed_edits::rows());
     rows.extend(timed_writing::rows());
     rows.extend(durations::rows());
+    rows.extend(carts::rows());
+    rows.extend(cart_faults::rows());
     rows.extend(largest::rows());
     rows
 }
@@ -132,7 +137,7 @@ fn plain(letters: usize, states: usize, size: usize, mark: u8) -> String {
 mod tests {
     use super::*;
     use crate::driver::coverage::Coverage;
-    use crate::driver::{wrong_durations, wrong_level, wrong_pass};
+    use crate::driver::{wrong_carts, wrong_durations, wrong_level, wrong_pass};
 
     #[test]
     fn the_independent_implementation_prints_what_is_stated() {
@@ -170,6 +175,11 @@ mod tests {
     #[test]
     fn every_wrong_running_sheet_is_found() {
         find_each(wrong_durations::kinds(), wrong_durations::wrong);
+    }
+
+    #[test]
+    fn every_wrong_loader_is_found() {
+        find_each(wrong_carts::kinds(), wrong_carts::wrong);
     }
 
     fn find_each(kinds: impl Iterator<Item = &'static str>, wrong: fn(&str, &[u8]) -> Option<Vec<u8>>) {

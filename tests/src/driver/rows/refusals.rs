@@ -22,7 +22,7 @@ const FAULTS: [(&str, &str, &str); 14] = [
 ];
 
 /// The calls that take a packed sheet: where it stands, the part that is refused, and the lent slices, which are not changed.
-const SHEET_CALLS: [(&str, &str, &str); 13] = [
+const SHEET_CALLS: [(&str, &str, &str); 14] = [
     ("check ?", "first", ""),
     ("verdict ? 9 -", "first", ""),
     ("complement ? 9*7", "first", " | 9*7"),
@@ -36,6 +36,7 @@ const SHEET_CALLS: [(&str, &str, &str); 13] = [
     ("write 3 ? 7 9*7", "first", " | 9*7"),
     ("write 4 ? 0 9*7", "first", " | 9*7"),
     ("pass ? 0,9 - 255", "first", ""),
+    ("cart ? - 9*7", "first", " | 9*7"),
 ];
 
 pub fn rows() -> Vec<Row> {

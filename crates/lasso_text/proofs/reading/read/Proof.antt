@@ -7,7 +7,8 @@ use denote.Ref.{now}
 use lib.ListN.{length}
 use Rattle.slices.proofs.Filling.{none-back}
 use Rattle.slices.specs.Refusals.{Result, fault, given}
-use Rattle.lasso_text.specs.Reading.{Words, wordsOf, lengthsSay}
+use Rattle.fdfa.specs.Family.{Words}
+use Rattle.lasso_text.specs.Reading.{wordsOf, lengthsSay}
 use Rattle.lasso_text.proofs.Rooms.{unmeasured, was-measured, text-refused, short-opening, short-period, enough, lasso-refused, lasso-filled}
 use borrow.Author.Needs.{needs}
 use Rattle.lasso_text.proofs.reading.read.Statement.{statement}

@@ -1,0 +1,4 @@
+mod Answers
+mod Spoken
+mod Wordings
+mod Example

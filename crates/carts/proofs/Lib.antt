@@ -1,0 +1,10 @@
+pub mod Onward
+pub mod Shows
+pub mod Layouts
+pub mod Answers
+pub mod Bytes
+pub mod Lassos
+pub mod Alone
+pub mod Placed
+pub mod Laws
+pub mod Example
