@@ -12,7 +12,8 @@ pub record Fdfa : Type 0 where
   -- the leading automaton
   pub states : ℕ
   pub step : ℕ → ℕ → ℕ
-  -- the progress automaton of each leading state q (01: the loop automaton of q), with its accepting (01: marked) states
+  -- the progress automaton of each leading state q (01: the loop automaton of q), with its accepting states (01:
+  -- marked places)
   pub size : ℕ → ℕ
   pub progress : ℕ → ℕ → ℕ → ℕ
   pub accepting : ℕ → ℕ → Bool

@@ -1,4 +1,5 @@
--- Reading the text of a lasso from left to right, for any bytes: what is refused first is refused at the smallest place. Assumes nothing.
+-- Reading the text of a lasso from left to right, for any bytes: what is refused first is refused at the smallest
+-- place. Assumes nothing.
 use mathlib.Core.Path.{_≡_}
 use mathlib.Core.List.{List, []}
 use Prim.Native.Nat.{ℕ}
@@ -49,7 +50,9 @@ textFault x = faultIn x
 
 -- 21 where the opening slice is too short, else where the period's is.
 abbrev pub roomFault : Words → ℕ → ℕ → Fault
-roomFault w o p = when (ltb o (length (w .prefix))) 21 Opening (length (w .prefix)) then when (ltb p (length (w .period))) 21 Loop (length (w .period))
+roomFault w o p =
+    when (ltb o (length (w .prefix))) 21 Opening (length (w .prefix))
+    then when (ltb p (length (w .period))) 21 Loop (length (w .period))
 
 -- The text's fault, and only then the room.
 abbrev pub readFault : Result Words → ℕ → ℕ → Fault

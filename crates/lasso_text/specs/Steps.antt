@@ -14,7 +14,8 @@ use Rattle.lasso_text.specs.Reading.{ended, Sizes, sizesOf, lengthsSay}
 abbrev pub measured : Result Words → Result Sizes
 measured x = mapped sizesOf x
 
--- The words of a text are at the start of two lent slices, each letter where there is room for it; a refusal leaves the cells open.
+-- The words of a text are at the start of two lent slices, each letter where there is room for it; a refusal leaves
+-- the cells open.
 pub record WordsRead (x : Result Words) (o p o′ p′ : List ℕ) (r : Lengths) : Type 0 where
   pub says : lengthsSay r ≡ measured x
   pub same-opening : length o′ ≡ length o
