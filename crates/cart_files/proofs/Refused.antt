@@ -45,13 +45,13 @@ scanned part s b o m {r} = by (ltb i m) refl
         (omega arith, omega arith)
     by false h e = absurd (faulty (sym e))
 
--- the second of two tests, where the first is passed
+-- whichever of two tests is met
 either : (f g : Fault) {r : Refusal} (P : Type 0) → (f ≡ fault r → P) → (g ≡ fault r → P) → f then g ≡ fault r → P
 either sound g P p q e = q e
 either (fault x) g P p q e = p e
 
 -- Of so many shows from a place on, the one that is refused, and the scene is in it.
-pub record Found (s : ℕ) (b : List ℕ) (r : Refusal) (at i c : ℕ) : Type 0 where
+pub record SceneFound (s : ℕ) (b : List ℕ) (r : Refusal) (at i c : ℕ) : Type 0 where
   pub show : ℕ
   pub among : show < c
   pub refuses : showFault s b (endFrom b at show) ≡ fault r
@@ -83,11 +83,11 @@ module _ (s : ℕ) (b : List ℕ) (r : Refusal) (nine : r .number ≡ 9) where
           by true g = let d : 8 ≡ r .number = ap (λ (x : Refusal). x .number) (fault-was g) in omega arith
           by false g = faulty (sym g)
 
-  pub scene-found : (c at i : ℕ) → showsFault s b at c ≡ fault r → Found s b r at i c
+  pub scene-found : (c at i : ℕ) → showsFault s b at c ≡ fault r → SceneFound s b r at i c
   unfolding showsFault endFrom sceneFrom
   scene-found zero at i e = absurd (faulty (sym e))
   scene-found (suc c) at i e =
-      either (showFault s b at) (showsFault s b (endAt b at) c) (Found s b r at i (suc c))
+      either (showFault s b at) (showsFault s b (endAt b at) c) (SceneFound s b r at i (suc c))
       (λ h. record {
         show = 0;
         among = omega arith;
@@ -98,7 +98,7 @@ module _ (s : ℕ) (b : List ℕ) (r : Refusal) (nine : r .number ≡ 9) where
       })
       (λ h. onward (scene-found c (endAt b at) (i + 1) h)) e
     where
-      onward : Found s b r (endAt b at) (i + 1) c → Found s b r at i (suc c)
+      onward : SceneFound s b r (endAt b at) (i + 1) c → SceneFound s b r at i (suc c)
       onward f =
           let before : endAt b at ≤ r .place = omega (arith, end-rises b (endAt b at) (f .show), within (endFrom b (endAt b at) (f .show)) (f .refuses) .0) in
           record {

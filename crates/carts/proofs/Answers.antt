@@ -25,7 +25,7 @@ use Rattle.carts.specs.declared.Loading.the-variants as loading
 use Rattle.carts.specs.Reading.{endAt, showAt, showsFrom}
 use Rattle.carts.specs.Faults.{showFault, showsFault, cartFault, loadFault}
 use Rattle.carts.specs.Loads.{firstRejected, Load, loaded, rejected, loadBy, loadOf, outAfter, loadingSays, CartLoaded}
-use Rattle.carts.specs.Steps.{Good}
+use Rattle.carts.specs.Steps.{GoodShows}
 use Rattle.carts.proofs.Onward.{end-rises, end-next, fault-next, rejected-next, rejected-last}
 use Rattle.carts.proofs.Shows.{show-lasso}
 
@@ -41,7 +41,7 @@ module _ (sheet u v : List ℕ) (good : lassoFault sheet u v ≡ sound) (r : Jud
   never-refused e = never-given (sym (ap saysOf e) ∙ is-given)
 
 -- the first of good shows lies within the cart and gets a verdict, and the others are good
-module _ {sheet b : List ℕ} {at i count : ℕ} (g : Good sheet b at (count - i)) (h : i < count) where
+module _ {sheet b : List ℕ} {at i count : ℕ} (g : GoodShows sheet b at (count - i)) (h : i < count) where
   pub next-within : endAt b at ≤ length b
   next-within = omega (arith, end-rises b (endAt b at) (count - (i + 1)), end-next b at h, g .exact)
 
@@ -53,7 +53,7 @@ module _ {sheet b : List ℕ} {at i count : ℕ} (g : Good sheet b at (count - i
       valid-lasso sheet (showAt b at .prefix) (showAt b at .period) (sound-valid First sheet (g .sheet-good))
       (show-lasso (letterCount sheet) b at next-within (then-left (showFault (letterCount sheet) b at) _ both))
 
-  pub next-good : Good sheet b (endAt b at) (count - (i + 1))
+  pub next-good : GoodShows sheet b (endAt b at) (count - (i + 1))
   next-good = record {
     sheet-good = g .sheet-good;
     exact = sym (end-next b at h) ∙ g .exact;

@@ -16,7 +16,7 @@ abbrev pub spanOf : List ℕ → ℕ → Span
 spanOf b at = record { prefix = prefixAt at; period = periodAt b at; end = endAt b at }
 
 -- A good sheet, and so many good shows from a place on, which end where the cart does.
-pub record Good (sheet b : List ℕ) (at count : ℕ) : Type 0 where
+pub record GoodShows (sheet b : List ℕ) (at count : ℕ) : Type 0 where
   pub sheet-good : sheetFault First sheet ≡ sound
   pub exact : endFrom b at count ≡ length b
   pub shows-good : showsFault (letterCount sheet) b at count ≡ sound

@@ -21,7 +21,7 @@ ghost use Rattle.membership.specs.Verdict.{lassoFault};
 ghost use Rattle.carts.specs.Reading.{countOf, endAt, showAt, showsFrom, showsOf};
 ghost use Rattle.carts.specs.Faults.{cartFault};
 ghost use Rattle.carts.specs.Loads.{firstRejected, loadBy, loadOf, loadingSays, CartLoaded};
-ghost use Rattle.carts.specs.Steps.{Good};
+ghost use Rattle.carts.specs.Steps.{GoodShows};
 
 // Whether the sheet accepts the show whose header begins at a place.
 fn is_accepted(sheet: &[u8], cart: &[u8], at: usize) -> bool
@@ -49,7 +49,7 @@ fn is_accepted(sheet: &[u8], cart: &[u8], at: usize) -> bool
 
 // The index of the first show that is rejected, or how many there are.
 fn first_rejected(sheet: &[u8], cart: &[u8], count: usize) -> usize
-    requires { ⌜ Good (now sheet) (now cart) 1 count ⌝ }
+    requires { ⌜ GoodShows (now sheet) (now cart) 1 count ⌝ }
     ensures { λ r. ⌜ r ≡ firstRejected (decode (now (sheet .entry))) (showsFrom (now (cart .entry)) 1 count) ⌝ }
 {
     let mut at = 1;
@@ -66,7 +66,7 @@ fn first_rejected(sheet: &[u8], cart: &[u8], count: usize) -> usize
 
 // What a good sheet says of a good cart.
 fn judge_shows(sheet: &[u8], cart: &[u8]) -> Loading
-    requires { ⌜ Good (now sheet) (now cart) 1 (countOf (now cart)) ⌝ }
+    requires { ⌜ GoodShows (now sheet) (now cart) 1 (countOf (now cart)) ⌝ }
     ensures { λ r. ⌜ loadingSays r ≡ given (loadBy (decode (now (sheet .entry))) (showsOf (now (cart .entry)))
         (length (now (cart .entry)))) ⌝ }
 {

@@ -11,7 +11,7 @@ use Rattle.packed.specs.Layout.{decode}
 use Rattle.carts.specs.declared.Span.{Span}
 use Rattle.carts.specs.Reading.{showsFrom}
 use Rattle.carts.specs.Loads.{firstRejected}
-use Rattle.carts.specs.Steps.{Good}
+use Rattle.carts.specs.Steps.{GoodShows}
 use Rattle.carts.proofs.Onward.{all-left}
 use Rattle.carts.proofs.Answers.{next-within, next-judged, next-good, rejected-here, accepted-here, accepted-all}
 use Rattle.carts.proofs.verdicts.first_rejected.Statement.{statement}
@@ -19,7 +19,7 @@ use Rattle.carts.proofs.verdicts.first_rejected.Tie as tie
 
 abbrev Inv-loop : tie.InvT-loop
 Inv-loop sheet cart count at₀ i₀ at i =
-    (i ≤ count) × Good sheet cart at (count - i) × (i + firstRejected (decode sheet) (showsFrom cart at (count - i)) ≡ firstRejected (decode sheet) (showsFrom cart 1 count))
+    (i ≤ count) × GoodShows sheet cart at (count - i) × (i + firstRejected (decode sheet) (showsFrom cart at (count - i)) ≡ firstRejected (decode sheet) (showsFrom cart 1 count))
 
 abbrev μ-loop : tie.MeasureT-loop
 μ-loop sheet cart count at₀ i₀ at i = count - i
@@ -35,7 +35,7 @@ loop-holds c =
     let s = c .before .before in
     let e = all-left (s .args .count) in (
       omega arith,
-      subst (Good (now (s .args .sheet)) (now (s .args .cart)) 1) (sym e) (s .pre),
+      subst (GoodShows (now (s .args .sheet)) (now (s .args .cart)) 1) (sym e) (s .pre),
       omega (arith, ap (λ (n : ℕ). firstRejected (decode (now (s .args .sheet))) (showsFrom (now (s .args .cart)) 1 n)) e),
     )
 
@@ -65,7 +65,7 @@ loop-again c =
     let e = sym (ap (λ (z : Span). z .end) (c .locate .ensures)) in
     let left = l .before .before .before .args .count - (l .loop .i + 1) in (
       omega arith,
-      subst (λ (p : ℕ). Good (now (l .before .before .before .args .sheet)) (cart l) p left) e (next-good (l .loop .inv .1) (d .loop-test .taken)),
+      subst (λ (p : ℕ). GoodShows (now (l .before .before .before .args .sheet)) (cart l) p left) e (next-good (l .loop .inv .1) (d .loop-test .taken)),
       ap (λ (p : ℕ). l .loop .i + 1 + firstRejected (family l) (showsFrom (cart l) p left)) (sym e)
           ∙ accepted-here (family l) (cart l) (l .loop .at) (l .loop .i) _ (l .loop .inv .2) (d .loop-test .taken) (a .is-accepted .ensures) (not-false _ (c .before .if1 .left)),
     )

@@ -9,7 +9,7 @@ use Rattle.slices.specs.LassoLetters.{lettersSay}
 use Rattle.slices.proofs.Refusals.{passed, failed, refuses, gives, when-fails, when-passes, then-left, then-right}
 use Rattle.carts.specs.Reading.{countOf}
 use Rattle.carts.specs.Faults.{layoutFault, showsFault, cartFault}
-use Rattle.carts.specs.Steps.{Good}
+use Rattle.carts.specs.Steps.{GoodShows}
 use Rattle.carts.proofs.Layouts.{layout-exact}
 use borrow.Author.Needs.{needs}
 use Rattle.carts.proofs.verdicts.judge_cart.Statement.{statement}
@@ -21,7 +21,7 @@ start k = k .before .before .before
 fine : (t : tie.After-enum-told) → let s = start (t .before .before) in cartFault (s .args .letters) (now (s .args .cart)) ≡ sound
 fine t = sym (t .before .before .check-cart .ensures) ∙ ap lettersSay (t .enum-told .given .1)
 
-good : (t : tie.After-enum-told) → let s = start (t .before .before) in Good (now (s .args .sheet)) (now (s .args .cart)) 1 (countOf (now (s .args .cart)))
+good : (t : tie.After-enum-told) → let s = start (t .before .before) in GoodShows (now (s .args .sheet)) (now (s .args .cart)) 1 (countOf (now (s .args .cart)))
 unfolding cartFault
 good t =
     let s = start (t .before .before) in

@@ -8,7 +8,7 @@ use Rattle.slices.specs.Refusals.{given}
 use Rattle.packed.specs.Layout.{decode}
 use Rattle.carts.specs.Reading.{countOf, showsFrom, showsOf}
 use Rattle.carts.specs.Loads.{firstRejected}
-use Rattle.carts.specs.Steps.{Good}
+use Rattle.carts.specs.Steps.{GoodShows}
 use Rattle.carts.proofs.Onward.{end-rises, count-shows}
 use Rattle.carts.proofs.Answers.{is-loaded, is-rejected}
 use borrow.Author.Needs.{needs}
@@ -33,7 +33,7 @@ wide-requires : tie.Need-wide-requires
 wide-requires c κs = search needs
 
 first-rejected-requires : tie.Need-first-rejected-requires
-first-rejected-requires c κs = let s = start c in subst (Good (now (s .args .sheet)) (now (s .args .cart)) 1) (sym (c .wide .ensures)) (s .pre)
+first-rejected-requires c κs = let s = start c in subst (GoodShows (now (s .args .sheet)) (now (s .args .cart)) 1) (sym (c .wide .ensures)) (s .pre)
 
 returns : tie.Need-returns
 returns c =
