@@ -1,4 +1,6 @@
 // The answer slice of the calls for C: what a call says as numbers, stored byte by byte.
+#![tactic(auto)]
+
 ghost use Rattle.std.specs.Prelude.{◌≡◌, [], ◌∷◌, ◌*◌, ◌≤◌, length};
 ghost use Rattle.slices.specs.Refusals.{written_says};
 ghost use Rattle.slices.specs.Filling.{written};

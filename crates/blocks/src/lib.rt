@@ -1,4 +1,6 @@
 // The blocks of a sheet's text, at both levels: read as numbers, the packed sheet filled from these, and written from a packed sheet.
+#![tactic(auto)]
+
 mod names; // names.rt: the names of the letters
 mod seconds; // seconds.rt: the block that only level four has
 mod reading; // reading.rt: the blocks read

@@ -1,4 +1,6 @@
 // Complement, intersection and union of families of DFAs, written as packed sheets into a lent slice.
+#![tactic(auto)]
+
 mod flipping; // flipping.rt: the bytes of a complement
 mod writing; // writing.rt: the bytes of a product
 

@@ -1,4 +1,6 @@
 // A deterministic Büchi automaton as text (02: a drawn automaton), read as the packed sheet of its family.
+#![tactic(auto)]
+
 mod single; // single.rt: one transition, one accepting state
 mod reading; // reading.rt: the whole text
 mod filling; // filling.rt: the packed sheet of an automaton

@@ -1,4 +1,6 @@
 // For C: a cart loaded. The call returns 0, and changes nothing, where the answer slice is too short; else 1.
+#![tactic(auto)]
+
 ghost use Rattle.std.specs.Prelude.{◌≡◌};
 ghost use Rattle.answers.specs.Layout.{numbers_of, padded};
 ghost use Rattle.carts.specs.Loads.{loading_says};

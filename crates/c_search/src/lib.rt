@@ -1,5 +1,7 @@
 // For C: the comparison of two sheets and the test of emptiness, in lent cells of work. Each call returns 0, and
 // changes nothing, where the answer slice is too short; else 1.
+#![tactic(auto)]
+
 ghost use Rattle.std.specs.Prelude.{◌≡◌, [], ◌∷◌};
 ghost use Rattle.inclusion.specs.Outcomes.{outcome_says};
 ghost use Rattle.answers.specs.Layout.{numbers_of, padded};

@@ -1,5 +1,7 @@
 // For C: the check of a packed sheet, complement, intersection and union. Each call returns 0, and changes nothing,
 // where the answer slice is too short; else 1.
+#![tactic(auto)]
+
 ghost use Rattle.std.specs.Prelude.{◌≡◌, length};
 ghost use Rattle.slices.specs.declared.Part.TheVariants.{First};
 ghost use Rattle.packed.specs.Faults.{checked, says_of};

@@ -1,5 +1,7 @@
 // For C: shows as texts, and how long they last. Each call returns 0, and changes nothing, where the answer slice is
 // too short; else 1.
+#![tactic(auto)]
+
 mod reading; // reading.rt: a text into lent slices
 mod writing; // writing.rt: a show as text, its running sheet
 

@@ -1,4 +1,6 @@
 // Makes a cart of shows that a sheet accepts, for the table-top model: of each show's text, in the order of the names.
+#![tactic(auto)]
+
 ghost use Rattle.std.specs.Prelude.{◌≡◌, ◌≤◌, length};
 
 use cart_files::{CART, Collected, Kept, scene_at};

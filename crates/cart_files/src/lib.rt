@@ -1,5 +1,7 @@
 // What the cart program decides of the bytes that came of its files: a sheet in any form, and the texts of shows, which
 // come one after the other.
+#![tactic(auto)]
+
 mod deciding; // deciding.rt: what the sheet says of the cart
 mod gathering; // gathering.rt: the cart of the texts that came
 mod scenes; // scenes.rt: which show a place of the cart lies in

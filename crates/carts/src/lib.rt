@@ -1,4 +1,6 @@
 // Carts: up to 64 shows as bytes, loaded where a sheet accepts each.
+#![tactic(auto)]
+
 mod judging; // judging.rt: a cart, judged by itself
 mod verdicts; // verdicts.rt: the verdicts on its shows, and the cart in the out slice
 mod places; // places.rt: where the shows of a cart lie

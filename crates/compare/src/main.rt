@@ -1,6 +1,8 @@
 // Compares two sheets, and prints whether every show that closes in both and is accepted by the first is accepted by
 // the second, or the first counter-show, and where both sheets wait and end. Without names the sheets are `first.sheet`
 // and `second.sheet` of the folder.
+#![tactic(auto)]
+
 ghost use Rattle.std.specs.Prelude.{◌≤◌, length};
 
 use answering::put_answer;

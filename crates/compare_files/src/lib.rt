@@ -1,5 +1,7 @@
 // What the comparison program decides of the bytes that came of two files, sheets in any form, with the room that it
 // has.
+#![tactic(auto)]
+
 ghost use Rattle.std.specs.Prelude.{◌≡◌, length};
 ghost use Rattle.slices.specs.Refusals.{given};
 ghost use Rattle.compare_files.specs.Decided.{compared_in, of_sheets, first_sheet, second_sheet, decided, Decides};

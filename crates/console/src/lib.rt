@@ -1,4 +1,6 @@
 // What the programs share: files read whole, refusal 25, what the arguments ask for, and what is printed.
+#![tactic(auto)]
+
 ghost use Rattle.std.specs.Prelude.{◌≡◌};
 ghost use Rattle.console.specs.Files.{length_fault, lengths_fault, says_of};
 

@@ -1,5 +1,7 @@
 // A file turned into a packed sheet, or a packed sheet into text: what the programs `pack`, `unpack` and `import`
 // share.
+#![tactic(auto)]
+
 mod packing; // packing.rt: from text to packed sheet and seconds
 mod telling; // telling.rt: a refusal, printed and in words
 mod unpacking; // unpacking.rt: from packed sheet and seconds to text, from the text of an automaton to packed sheet

@@ -1,4 +1,6 @@
 // A cursor over the infinite word of a lasso: letter by letter through the prefix once, then through the period for ever.
+#![tactic(auto)]
+
 ghost use Rattle.std.specs.Prelude.{◌≡◌};
 ghost use Rattle.cursor.specs.Walking.{start_of, stepped, says_of, rest_of, rest_lies};
 ghost use Rattle.cursor.specs.Passing.{passed_in};

@@ -1,5 +1,7 @@
 // Prints the running sheet of a show: each scene of its text with the seconds that a sheet's text has for it, and how
 // long its opening and its loop last.
+#![tactic(auto)]
+
 ghost use Rattle.std.specs.Prelude.{◌≤◌, length};
 
 use answering::put_answer;

@@ -1,4 +1,6 @@
 // What the durations program decides of the bytes that came of two files: a sheet's text, and a show's.
+#![tactic(auto)]
+
 ghost use Rattle.std.specs.Prelude.{◌≡◌, ◌≤◌, length};
 ghost use Rattle.sheet_forms.specs.Forms.{FillsWith};
 ghost use Rattle.durations_files.specs.Decided.{cells_in, cell_count, running, of_cells, decided};

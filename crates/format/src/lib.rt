@@ -1,4 +1,6 @@
 // Formats of texts: fixed bytes and numbers, read from left to right and written, from one description.
+#![tactic(auto)]
+
 mod reading; // reading.rt: literals, cells, rows
 mod labelled; // labelled.rt: lines of a word and a number, as many as there are
 mod writing; // writing.rt: literals and rows, written

@@ -1,5 +1,7 @@
 // Reads the text of a deterministic Büchi automaton from the file TEXT and writes the packed sheet of its family to the
 // file SHEET, or prints the refusal.
+#![tactic(auto)]
+
 fn main() {
     conversion::run(
         conversion::Way::Import,

@@ -1,4 +1,6 @@
 // Inclusion of two sheets with the first counterexample, and emptiness of one.
+#![tactic(auto)]
+
 mod placing; // placing.rt: what the search found, with where each sheet stands on it
 
 ghost use Rattle.std.specs.Prelude.{◌≡◌};

@@ -1,5 +1,7 @@
 // The first accepted, normalized lasso of the difference of two sheets: of their family of pairs, a pair being marked where the first
 // sheet's state is and the second's is not.
+#![tactic(auto)]
+
 mod setting; // setting.rt: where a period may end
 mod searching; // searching.rt: the search for the first lasso
 mod telling; // telling.rt: the lasso that was found, written

@@ -1,4 +1,6 @@
 // A lasso as text (01: a show; the block `part scene`): read into two lent slices, and written.
+#![tactic(auto)]
+
 mod reading; // reading.rt: the words of a text
 mod writing; // writing.rt: the text of a lasso
 

@@ -1,4 +1,6 @@
 // Membership of a lasso: whether a family of DFAs accepts the pair of a prefix and a period, with its normalization.
+#![tactic(auto)]
+
 ghost use Rattle.std.specs.Prelude.{◌≡◌, ◌<◌};
 ghost use Rattle.fdfa.specs.Words.{Over};
 ghost use Rattle.packed.specs.Layout.{letter_count, state_count, decode, Valid};

@@ -1,4 +1,6 @@
 // Numbers in a text: one read at a place, and the digits of any written.
+#![tactic(auto)]
+
 mod reading; // reading.rt: the number at a place
 pub mod held; // held.rt: a reader that holds a text and a place
 mod writing; // writing.rt: a byte, and a number with the byte that ends it

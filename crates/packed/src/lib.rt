@@ -1,4 +1,6 @@
 // The packed sheet: a family of DFAs as bytes. It is checked here, and its tables are read here.
+#![tactic(auto)]
+
 mod checking; // checking.rt: whether bytes are a packed sheet
 mod walking; // walking.rt: a table by letter, and walks along a word
 

@@ -1,5 +1,7 @@
 // Two packed sheets side by side: their sizes, where the tables and marks of a pair of automata begin, and the next pair of
 // states by a letter. The pair (p, q) has the number p × width + q, where the second automaton has `width` states.
+#![tactic(auto)]
+
 mod tabulating; // tabulating.rt: the next pairs of many pairs, as one table
 
 ghost use Rattle.std.specs.Prelude.{◌≡◌, ◌<◌};

@@ -1,5 +1,7 @@
 // The calls for players in C: the verdict, and the comparison with cells of its own. Each returns 0, and changes
 // nothing, where the answer slice is too short; else 1.
+#![tactic(auto)]
+
 ghost use Rattle.std.specs.Prelude.{◌≡◌};
 ghost use Rattle.membership.specs.Verdict.{verdict_of, says_of};
 ghost use Rattle.answers.specs.Layout.{numbers_of, padded, Told};

@@ -1,5 +1,7 @@
 // The pass over a prefix, which judges and walks it in one go over its letters. What the pass holds is a value, from which it goes on over
 // a further part of the prefix.
+#![tactic(auto)]
+
 mod pairs; // pairs.rt: long parts, two letters at a time
 
 ghost use Rattle.std.specs.Prelude.{◌≡◌, ◌<◌};

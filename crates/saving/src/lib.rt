@@ -1,5 +1,7 @@
 // Files that are made whole or not at all, one or two at once, and whether two names are of one file. What fails is
 // said on standard error.
+#![tactic(auto)]
+
 mod looking; // looking.rt: what stands at a path
 mod placing; // placing.rt: a file written in place
 mod saving; // saving.rt: files written beside and renamed, or in place

@@ -1,5 +1,7 @@
 // A breadth-first search over two automata side by side, which keeps its queue in lent cells: expanding a state by all letters, the
 // search to its end, and reading a state or its first word back.
+#![tactic(auto)]
+
 mod reading; // reading.rt: a code's word, read back
 
 ghost use Rattle.std.specs.Prelude.{◌≡◌, ◌%◌, ◌≤◌, ◌<◌, length, replicate};

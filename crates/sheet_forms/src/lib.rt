@@ -1,4 +1,6 @@
 // A sheet's file in any of its forms, as the packed sheet that it is.
+#![tactic(auto)]
+
 ghost use Rattle.std.specs.Prelude.{◌≡◌, ◌≤◌, length};
 ghost use Rattle.sheet_forms.specs.declared.Form.TheVariants.{Text, Drawn, Packed};
 ghost use Rattle.sheet_forms.specs.Forms.{form_of, form_in_value, is_text_of, of_part_of, sheet_as, FillsWith};

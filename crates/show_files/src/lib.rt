@@ -1,4 +1,6 @@
 // What programs ask of a show's file, their second: how many opening lines it has.
+#![tactic(auto)]
+
 ghost use Rattle.std.specs.Prelude.{◌≡◌, ◌≤◌};
 ghost use Rattle.show_files.specs.Shown.{openings};
 

@@ -1,4 +1,6 @@
 // What all calls share, below the model: refusals, numbers of other widths, scans of a slice and the filling of one.
+#![tactic(auto)]
+
 mod copying; // copying.rt: copies of a slice
 mod counting; // counting.rt: a sum that stops at the largest number
 mod scanning; // scanning.rt: the first byte of a slice that is out of a range

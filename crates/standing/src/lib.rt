@@ -1,5 +1,7 @@
 // Where two sheets stand on a lasso: for each the leading state after the prefix, and where the progress automaton of that state ends
 // after one turn of the period.
+#![tactic(auto)]
+
 ghost use Rattle.std.specs.Prelude.{◌≡◌};
 ghost use Rattle.fdfa.specs.Family.{Lasso};
 ghost use Rattle.fdfa.specs.Enumeration.{lasso};

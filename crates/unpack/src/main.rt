@@ -1,5 +1,7 @@
 // Reads a packed sheet from the file SHEET and its seconds from the file SECONDS, and writes the text to the file TEXT,
 // or prints the refusal.
+#![tactic(auto)]
+
 fn main() {
     conversion::run(
         conversion::Way::Unpack,

@@ -1,5 +1,7 @@
 // Judges the show of a text by a sheet, and prints the verdict. Without names the sheet is `first.sheet` of the folder,
 // the show `show.txt`.
+#![tactic(auto)]
+
 ghost use Rattle.std.specs.Prelude.{◌≤◌, length};
 
 use answering::put_answer;

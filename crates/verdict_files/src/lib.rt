@@ -1,4 +1,6 @@
 // What the verdict program decides of the bytes that came of two files: a sheet in any form, and a show's text.
+#![tactic(auto)]
+
 ghost use Rattle.std.specs.Prelude.{◌≡◌, length};
 ghost use Rattle.slices.specs.declared.Part.TheVariants.{First};
 ghost use Rattle.slices.specs.Refusals.{sound};

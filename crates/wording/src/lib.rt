@@ -1,4 +1,6 @@
 // A refusal in words, for people: the file and its place by line and column or byte, the number and its sentence.
+#![tactic(auto)]
+
 mod reasons; // reasons.rt: a number and its sentence
 mod scenes; // scenes.rt: a refusal of a scene, in the show's text
 mod words; // words.rt: the words of a refusal
