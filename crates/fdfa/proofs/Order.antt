@@ -9,9 +9,12 @@ use native.Mathlib.Decide.{dec_lt}
 use lib.ListN.{length}
 use Rattle.fdfa.specs.Words.{Lex, differ, agree, Shortlex, shorter, as_long, Before, by_prefix, by_period}
 
+lex-≢ : {v w : List ℕ} → Lex v w → v ≡ w → ⊥
+lex-≢ (differ {a = a} {b = b} h) e = let d : a ≡ b = cc in omega arith
+lex-≢ (agree {v = v} {w = w} p) e = let d : v ≡ w = cc in lex-≢ p d
+
 lex_irrefl : {w : List ℕ} → Lex w w → ⊥
-lex_irrefl (differ h) = omega arith
-lex_irrefl (agree p) = lex_irrefl p
+lex_irrefl p = lex-≢ p refl
 
 lex-trans : {u v w : List ℕ} → Lex u v → Lex v w → Lex u w
 lex-trans (differ h) (differ k) = differ (lt_trans h k)
