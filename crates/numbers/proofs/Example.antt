@@ -1,6 +1,5 @@
 -- Numbers read at a place, and refused at theirs: past the text's end at its length.
 use mathlib.Core.Path.{◌≡◌, refl}
-use Prim.Native.Nat.{ℕ}
 use Rattle.slices.specs.declared.Part.TheVariants.{First, Second}
 use Rattle.slices.specs.Extremes.{least}
 use Rattle.slices.specs.Scans.{first_outside_of}

@@ -1,10 +1,8 @@
 -- `numbers::reading::after_number` meets its contract. Assumes nothing.
-use mathlib.Core.Path.{◌≡◌, ap, sym, ◌∙◌}
+use mathlib.Core.Path.{ap, sym, ◌∙◌}
 use Prim.Native.Nat.{ℕ}
-use Rattle.slices.specs.declared.Part.TheVariants.{First}
 use Rattle.numbers.specs.declared.Number.{Number}
-use Rattle.numbers.specs.Numerals.{number_at_value, place_after}
-use borrow.Author.Rules.{rules}
+use Rattle.numbers.specs.Numerals.{place_after}
 use Rattle.numbers.proofs.reading.after_number.Goals as goal
 
 pub returns-in-Good : goal.returns-in-Good

@@ -8,7 +8,6 @@ use lib.ListN.{get_or}
 use Rattle.numbers.specs.declared.Number.TheVariants.{Good, Refused}
 use Rattle.numbers.specs.Numerals.{run_of, value_of, malformed}
 use Rattle.numbers.proofs.Runs.{run-bound, run-digits, well-formed, number-none, number-bad, number-good}
-use borrow.Author.Rules.{rules}
 use Rattle.numbers.proofs.reading.number_at.Goals as goal
 
 -- the test of the run, in the text's own terms
@@ -19,22 +18,22 @@ pub returns-then-len-at : goal.returns-then-len-at
 returns-then-len-at c = ap Refused c.refuse.ensures ∙ sym (number-none _ _ _ c.if-len-at.true)
 
 pub overflow_add-next : goal.overflow_add-next
-overflow_add-next c = 
+overflow_add-next c =
     omega (arith, run-bound c.args.text.now c.args.at (omega (arith, c.if-len-at.false)), c.run-r.ensures)
 
 pub returns-then-is_malformed : goal.returns-then-is_malformed
-returns-then-is_malformed c = 
+returns-then-is_malformed c =
     ap Refused c.refuse-then-is_malformed.ensures ∙ sym (number-bad c.args.part c.args.text.now c.args.at c.if-len-at.false (test c.args.text.now c.args.at c.run-r.ensures c.is_malformed.ensures ∙ c.if-is_malformed.true))
 
 pub value-requires : goal.value-requires
-value-requires c = 
+value-requires c =
     let t = c.args.text.now in
     let e = c.run-r.ensures in
     let w = well-formed c.run-r.result (get_or t c.args.at 0) (sym c.is_malformed.ensures ∙ c.if-is_malformed.false) in
     record { run_in_bounds = (omega (arith, run-bound t c.args.at (omega (arith, c.if-len-at.false)), e), w.0, w.1); by_index = λ i h. run-digits t c.args.at i (omega (arith, e)) }
 
 pub returns : goal.returns
-returns c = 
+returns c =
     let t = c.args.text.now in
     let e = c.run-r.ensures in
     (λ i. Good ((c.value.ensures ∙ ap (value_of t c.args.at) e) i) (c.args.at + e i))

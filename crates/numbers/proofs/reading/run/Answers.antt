@@ -1,7 +1,6 @@
 -- `numbers::reading::run` meets its contract. Assumes nothing.
 use Rattle.numbers.specs.Numerals.{run_of}
 use Rattle.numbers.proofs.Runs.{run_none}
-use borrow.Author.Rules.{rules}
 use Rattle.numbers.proofs.reading.run.Goals as goal
 
 pub returns-then-len-at : goal.returns-then-len-at

@@ -1,11 +1,7 @@
 -- `numbers::writing::put_digits` meets its contract. Assumes nothing.
-use mathlib.Core.Path.{◌∙◌}
-use Prim.Native.Nat.{◌≤◌}
 use native.Mathlib.Omega.{arith}
 use Rattle.numbers.proofs.Digits.{digits-some}
-use Rattle.numbers.proofs.Stores.{stored-length}
-use Rattle.numbers.proofs.Backward.{Behind, is-small, behind-none, behind_more, behind-all, behind-length}
-use borrow.Author.Rules.{rules}
+use Rattle.numbers.proofs.Backward.{is-small, behind-none, behind_more, behind-all}
 use Rattle.numbers.proofs.writing.put_digits.Goals as goal
 
 pub loop-i-init : goal.loop-i-init
@@ -18,7 +14,7 @@ pub put-requires : goal.put-requires
 put-requires c = omega (arith, c.loop-i.invariant.1, c.width-w.ensures.0, c.requires)
 
 pub loop-i-preserved : goal.loop-i-preserved
-loop-i-preserved c = 
+loop-i-preserved c =
     (behind_more c.loop-i.invariant.0 c.loop-i-test.true c.digit.ensures c.put.ensures, omega (arith, c.loop-i.invariant.1))
 
 pub digit-requires-2 : goal.digit-requires-2
@@ -31,5 +27,5 @@ pub overflow_add-result : goal.overflow_add-result
 overflow_add-result c = omega (arith, c.width-w.ensures.0, c.requires)
 
 pub returns : goal.returns
-returns c = 
+returns c =
     behind-all c.loop-i.invariant.0 c.loop-i-test.false c.width-w.ensures.0 c.digit-2.ensures c.put-2.ensures

@@ -1,11 +1,6 @@
 -- The loops of `numbers::writing::put_digits`.
-use mathlib.Core.Path.{◌∙◌}
 use Prim.Native.Nat.{◌≤◌}
-use native.Mathlib.Omega.{arith}
-use Rattle.numbers.proofs.Digits.{digits-some}
-use Rattle.numbers.proofs.Stores.{stored-length}
-use Rattle.numbers.proofs.Backward.{Behind, is-small, behind-none, behind_more, behind-all, behind-length}
-use borrow.Author.Rules.{rules}
+use Rattle.numbers.proofs.Backward.{Behind}
 use Rattle.numbers.proofs.writing.put_digits.Given as goal
 
 abbrev pub invariant-loop-i : goal.invariant-loop-i

@@ -1,22 +1,17 @@
 -- `numbers::writing::width` meets its contract. Assumes nothing.
-use mathlib.Core.Path.{◌≡◌}
-use Prim.Native.Nat.{◌+◌}
 use native.Mathlib.Omega.{arith}
-use lib.ListN.{length}
-use Rattle.numbers.specs.Digits.{digits_of}
 use Rattle.numbers.proofs.Digits.{digits-some, digits-few, length-one, length_last}
-use borrow.Author.Rules.{rules}
 use Rattle.numbers.proofs.writing.width.Goals as goal
 
 pub overflow_add-w : goal.overflow_add-w
-overflow_add-w c = 
+overflow_add-w c =
     let few = digits-few c.args.n (omega arith) in omega (arith, c.loop-rest.invariant, digits-some c.loop-rest.rest, few)
 
 pub loop-rest-preserved : goal.loop-rest-preserved
 loop-rest-preserved c = omega (arith, c.loop-rest.invariant, length_last c.loop-rest.rest c.loop-rest-test.true)
 
 pub returns : goal.returns
-returns c = 
+returns c =
     let few = digits-few c.args.n (omega arith) in
     let one = length-one c.loop-rest.rest c.loop-rest-test.false in
     (omega (arith, c.loop-rest.invariant, one), omega (arith, c.loop-rest.invariant, one, few))

@@ -1,11 +1,8 @@
 -- The loops of `numbers::writing::width`.
 use mathlib.Core.Path.{◌≡◌}
 use Prim.Native.Nat.{◌+◌}
-use native.Mathlib.Omega.{arith}
 use lib.ListN.{length}
 use Rattle.numbers.specs.Digits.{digits_of}
-use Rattle.numbers.proofs.Digits.{digits-some, digits-few, length-one, length_last}
-use borrow.Author.Rules.{rules}
 use Rattle.numbers.proofs.writing.width.Given as goal
 
 -- with those of what is left, one digit is counted twice
