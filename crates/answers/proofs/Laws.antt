@@ -7,7 +7,7 @@ use native.Mathlib.Nat.{pow-suc, mul_comm, mul_assoc, mod-one, mod-eq_of_lt}
 use lib.Arith.{mod-mul}
 use lib.ListN.{length}
 use Rattle.slices.specs.declared.Part.TheVariants.{Out}
-use Rattle.slices.specs.Refusals.{Result, given, refused}
+use Rattle.slices.specs.Refusals.{given, refused}
 use Rattle.slices.specs.Tables.{tab, rows}
 use Rattle.slices.proofs.Tables.{length-tab}
 use Rattle.answers.specs.Layout.{number_bytes, number_said, layout, numbers_of, padded}
