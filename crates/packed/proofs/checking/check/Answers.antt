@@ -1,0 +1,30 @@
+-- `packed::checking::check` meets its contract: the counts, then the tables. Assumes nothing.
+use mathlib.Core.Path.{◌≡◌, ap, sym, ◌∙◌}
+use mathlib.Core.List.{List}
+use Prim.Native.Nat.{ℕ}
+use borrow.Author.Rules.{rules}
+use Rattle.slices.specs.declared.Part.{Part}
+use Rattle.slices.specs.Refusals.{Fault, sound, unless}
+use Rattle.slices.proofs.Refusals.{passed, failed, refuses, was-given, was-refused}
+use Rattle.packed.specs.Faults.{header_fault, tables_fault, sheet_fault, sizes_of, says_of}
+use Rattle.packed.proofs.Soundness.{sound-header}
+use Rattle.packed.proofs.checking.check.Goals as goal
+
+pub check_tables-requires : goal.check_tables-requires
+check_tables-requires c = let z = was-given _ _ c.in-Valid.ensures in (sound-header _ _ z.0, z.1)
+
+pub returns-in-Refused : goal.returns-in-Refused
+unfolding sheet_fault
+returns-in-Refused c =
+    let b = c.args.sheet.now in
+    refuses (sizes_of b)
+    (failed (tables_fault c.args.part b) (ap (λ (p : Part). header_fault p b) (sym c.again.ensures) ∙ was-refused (header_fault c.again.result b) (sizes_of b) c.in-Refused.ensures))
+
+pub returns-in-Valid : goal.returns-in-Valid
+unfolding sheet_fault
+returns-in-Valid c =
+    let b = c.args.sheet.now in
+    let z = was-given _ _ c.in-Valid.ensures in
+    let f = tables_fault c.args.part b in
+    let e = ap (λ (p : Part). header_fault p b) (sym c.again.ensures) ∙ z.0 in
+    c.check_tables.ensures ∙ (ap (unless f) z.1 ∙ ap (λ (g : Fault). unless g (sizes_of b)) (sym (passed f e)))

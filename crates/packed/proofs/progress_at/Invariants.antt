@@ -1,0 +1,15 @@
+-- The loops of `packed::progress_at`.
+use mathlib.Core.Path.{◌≡◌, ap, ap₂, ◌∙◌}
+use mathlib.Core.List.{List}
+use Prim.Native.Nat.{ℕ, ◌+◌, ◌*◌, ◌-◌, ◌≤◌}
+use native.Mathlib.Omega.{arith}
+use Rattle.packed.specs.Layout.{letter_count, size_of, progress_at_value}
+use Rattle.packed.proofs.Bounds.{part-few, progress-next, front-few, front-end, progress-few}
+use borrow.Author.Rules.{rules}
+use Rattle.packed.proofs.progress_at.Given as goal
+
+abbrev pub invariant-loop-r : goal.invariant-loop-r
+invariant-loop-r l = (l.r ≤ l.q) × (l.at ≡ progress_at_value l.sheet l.r) × (l.s ≡ letter_count l.sheet)
+
+abbrev pub decreases-loop-r : goal.decreases-loop-r
+decreases-loop-r l = l.q - l.r

@@ -1,0 +1,14 @@
+-- The loops of `packed::walking::columns`.
+use Prim.Native.Nat.{◌*◌, ◌-◌}
+use native.Mathlib.Omega.{arith}
+use lib.ListN.{length-replicate}
+use Rattle.slices.proofs.Filling.{Filling, filling-none, filling-more, filling-all}
+use Rattle.packed.specs.Columns.{column_cell, columns_of}
+use borrow.Author.Rules.{rules}
+use Rattle.packed.proofs.walking.columns.Given as goal
+
+abbrev pub invariant-loop-i : goal.invariant-loop-i
+invariant-loop-i l = Filling (32 * l.letters) (column_cell l.sheet l.at l.letters l.states) l.initial.table l.table l.i
+
+abbrev pub decreases-loop-i : goal.decreases-loop-i
+decreases-loop-i l = 32 * l.letters - l.i
