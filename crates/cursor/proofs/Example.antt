@@ -1,6 +1,6 @@
 -- What a step is refused for, with the cursor as it was, and the rest.
 use mathlib.Core.Path.{◌≡◌, refl}
-use mathlib.Core.List.{List, [], ◌∷◌}
+use mathlib.Core.List.{[], ◌∷◌}
 use Prim.Native.Nat.{ℕ}
 use Rattle.slices.specs.declared.Part.TheVariants as part
 use Rattle.cursor.specs.declared.Phase.TheVariants.{Prefix, Period}

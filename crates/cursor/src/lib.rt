@@ -8,7 +8,7 @@ ghost use Rattle.cursor.specs.Passing.{passed_in};
 use slices::{Part, Refusal, refuse};
 
 // The word of the lasso that the cursor stands in.
-#[derive(Drop)]
+#[derive(Clone, Copy)]
 pub enum Phase {
     Prefix,
     Period,
