@@ -1,7 +1,7 @@
 -- `packed::progress_at` meets its contract. Assumes nothing.
 use mathlib.Core.Path.{◌≡◌, ap, ap₂, ◌∙◌}
 use mathlib.Core.List.{List}
-use Prim.Native.Nat.{ℕ, ◌+◌, ◌*◌, ◌-◌, ◌≤◌}
+use Prim.Native.Nat.{ℕ, ◌+◌, ◌*◌, ◌≤◌}
 use native.Mathlib.Omega.{arith}
 use Rattle.packed.specs.Layout.{letter_count, size_of, progress_at_value}
 use Rattle.packed.proofs.Bounds.{part-few, progress-next, front-few, front-end, progress-few}
@@ -36,18 +36,18 @@ pub loop-r-init : goal.loop-r-init
 loop-r-init c = (search rules, front-end _ c.states-n.ensures c.letters-s.ensures, c.letters-s.ensures)
 
 pub overflow_mul-at-in-loop-r : goal.overflow_mul-at-in-loop-r
-overflow_mul-at-in-loop-r c = 
+overflow_mul-at-in-loop-r c =
     omega (arith, part-few (few-of _ _ c.size.ensures (c.requires.0.few_size c.loop-r.r (search rules))) (few-of _ _ c.loop-r.invariant.2 c.requires.0.few_letters))
 
 pub overflow_add-at-in-loop-r-2 : goal.overflow_add-at-in-loop-r-2
-overflow_add-at-in-loop-r-2 c = 
+overflow_add-at-in-loop-r-2 c =
     omega (arith, further _ c.loop-r.r c.loop-r.at _ _ c.loop-r.invariant.1 c.size.ensures c.loop-r.invariant.2, progress-few _ c.requires.0 (c.loop-r.r + 1) (search rules), c.requires.0.few_states, c.requires.1)
 
 pub loop-r-preserved : goal.loop-r-preserved
-loop-r-preserved c = 
+loop-r-preserved c =
     (search rules, further _ c.loop-r.r c.loop-r.at _ _ c.loop-r.invariant.1 c.size.ensures c.loop-r.invariant.2, c.loop-r.invariant.2)
 
 pub returns : goal.returns
-returns c = 
+returns c =
     let e : c.loop-r.r ≡ c.args.q = search rules in
     c.loop-r.invariant.1 ∙ ap (progress_at_value _) e

@@ -1,11 +1,7 @@
 -- The loops of `packed::progress_at`.
-use mathlib.Core.Path.{◌≡◌, ap, ap₂, ◌∙◌}
-use mathlib.Core.List.{List}
-use Prim.Native.Nat.{ℕ, ◌+◌, ◌*◌, ◌-◌, ◌≤◌}
-use native.Mathlib.Omega.{arith}
-use Rattle.packed.specs.Layout.{letter_count, size_of, progress_at_value}
-use Rattle.packed.proofs.Bounds.{part-few, progress-next, front-few, front-end, progress-few}
-use borrow.Author.Rules.{rules}
+use mathlib.Core.Path.{◌≡◌}
+use Prim.Native.Nat.{◌-◌, ◌≤◌}
+use Rattle.packed.specs.Layout.{letter_count, progress_at_value}
 use Rattle.packed.proofs.progress_at.Given as goal
 
 abbrev pub invariant-loop-r : goal.invariant-loop-r

@@ -1,12 +1,9 @@
 -- `packed::checking::check` meets its contract: the counts, then the tables. Assumes nothing.
-use mathlib.Core.Path.{◌≡◌, ap, sym, ◌∙◌}
-use mathlib.Core.List.{List}
-use Prim.Native.Nat.{ℕ}
-use borrow.Author.Rules.{rules}
+use mathlib.Core.Path.{ap, sym, ◌∙◌}
 use Rattle.slices.specs.declared.Part.{Part}
-use Rattle.slices.specs.Refusals.{Fault, sound, unless}
+use Rattle.slices.specs.Refusals.{Fault, unless}
 use Rattle.slices.proofs.Refusals.{passed, failed, refuses, was-given, was-refused}
-use Rattle.packed.specs.Faults.{header_fault, tables_fault, sheet_fault, sizes_of, says_of}
+use Rattle.packed.specs.Faults.{header_fault, tables_fault, sheet_fault, sizes_of}
 use Rattle.packed.proofs.Soundness.{sound-header}
 use Rattle.packed.proofs.checking.check.Goals as goal
 

@@ -1,14 +1,11 @@
 -- `packed::checking::check_pair` meets its contract. Assumes nothing.
-use mathlib.Core.Path.{◌≡◌, ap, sym, ◌∙◌}
-use mathlib.Core.List.{List}
-use Prim.Native.Nat.{ℕ}
+use mathlib.Core.Path.{ap, sym, ◌∙◌}
 use Rattle.slices.specs.declared.Part.TheVariants.{First}
 use Rattle.slices.specs.Refusals.{Fault, unless}
 use Rattle.slices.proofs.Refusals.{passed, failed, refuses, was-given, was-refused}
 use Rattle.packed.specs.declared.Sizes.{Sizes}
 use Rattle.packed.specs.Layout.{letter_count}
-use Rattle.packed.specs.Faults.{sheet_fault, sizes_of, says_of, second_fault, BothSizes}
-use borrow.Author.Rules.{rules}
+use Rattle.packed.specs.Faults.{sheet_fault, sizes_of, second_fault, BothSizes}
 use Rattle.packed.proofs.checking.check_pair.Goals as goal
 
 pub returns-in-Refused : goal.returns-in-Refused

@@ -1,7 +1,7 @@
 -- `packed::checking::check_progress` meets its contract: what is left to judge at q says the same as the whole. Assumes nothing.
 use mathlib.Core.Path.{◌≡◌, ap, sym, ◌∙◌}
 use mathlib.Core.List.{List}
-use Prim.Native.Nat.{ℕ, ◌-◌, ◌≤◌, ◌<◌}
+use Prim.Native.Nat.{ℕ, ◌-◌, ◌<◌}
 use lib.ListN.{length}
 use native.Mathlib.Omega.{arith}
 use native.Mathlib.Nat.{sub-zero}
@@ -43,7 +43,7 @@ pub overflow_add-at : goal.overflow_add-at
 overflow_add-at c = omega (arith, (part_of c.args.sheet.now c.requires.0 c.requires.1 c.requires.2 c.loop-q-test.true c.loop-q.invariant.1 c.size-k.ensures).within, (part_of c.args.sheet.now c.requires.0 c.requires.1 c.requires.2 c.loop-q-test.true c.loop-q.invariant.1 c.size-k.ensures).low)
 
 pub returns-then-i-entries : goal.returns-then-i-entries
-returns-then-i-entries c = 
+returns-then-i-entries c =
     let i = c.loop-q in
     c.refusal.ensures
     ∙ refuses _
@@ -59,7 +59,7 @@ pub overflow_add-at-then-p-k : goal.overflow_add-at-then-p-k
 overflow_add-at-then-p-k c = omega (arith, (part_of c.args.sheet.now c.requires.0 c.requires.1 c.requires.2 c.loop-q-test.true c.loop-q.invariant.1 c.size-k.ensures).within, (part_of c.args.sheet.now c.requires.0 c.requires.1 c.requires.2 c.loop-q-test.true c.loop-q.invariant.1 c.size-k.ensures).low, c.if-p-k.true)
 
 pub returns-then-p-k : goal.returns-then-p-k
-returns-then-p-k c = 
+returns-then-p-k c =
     let i = c.loop-q in
     c.refusal-then-p-k.ensures
     ∙ refuses _
@@ -70,7 +70,7 @@ pub overflow_add-at-in-loop-q-2 : goal.overflow_add-at-in-loop-q-2
 overflow_add-at-in-loop-q-2 c = omega (arith, (part_of c.args.sheet.now c.requires.0 c.requires.1 c.requires.2 c.loop-q-test.true c.loop-q.invariant.1 c.size-k.ensures).within, (part_of c.args.sheet.now c.requires.0 c.requires.1 c.requires.2 c.loop-q-test.true c.loop-q.invariant.1 c.size-k.ensures).low)
 
 pub loop-q-preserved : goal.loop-q-preserved
-loop-q-preserved c = 
+loop-q-preserved c =
     let i = c.loop-q in (
       search rules,
       (part_of c.args.sheet.now c.requires.0 c.requires.1 c.requires.2 c.loop-q-test.true c.loop-q.invariant.1 c.size-k.ensures).next,
@@ -80,7 +80,7 @@ loop-q-preserved c =
 
 pub returns : goal.returns
 unfolding progress_fault
-returns c = 
+returns c =
     let i = c.loop-q in
     let done : c.args.z.states - i.q ≡ 0 = omega (arith, c.loop-q-test.false) in
     gives _ (i.invariant.2 ∙ ap (progress_fault _ _ i.q) done)

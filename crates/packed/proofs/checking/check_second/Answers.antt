@@ -9,8 +9,7 @@ use Rattle.slices.specs.Refusals.{sound, given, refused, unless}
 use Rattle.slices.proofs.Refusals.{when-fails, when-passes, passed, failed, refuses, gives, was-given, was-refused}
 use Rattle.packed.specs.declared.Sizes.{Sizes}
 use Rattle.packed.specs.Layout.{letter_count}
-use Rattle.packed.specs.Faults.{sheet_fault, sizes_of, says_of, BothSizes}
-use borrow.Author.Rules.{rules}
+use Rattle.packed.specs.Faults.{sheet_fault, sizes_of}
 use Rattle.packed.proofs.checking.check_second.Goals as goal
 
 -- the second sheet is good, and its letters are those it counts

@@ -4,7 +4,6 @@ use mathlib.Core.List.{List}
 use Prim.Native.Nat.{ℕ, ◌+◌, ◌*◌, ◌≤◌}
 use native.Mathlib.Omega.{arith}
 use lib.ListN.{length}
-use borrow.Author.Rules.{rules}
 use Rattle.slices.specs.Refusals.{Fault, unless}
 use Rattle.slices.proofs.Refusals.{refuses}
 use Rattle.packed.specs.declared.Sizes.{Sizes}
@@ -50,15 +49,15 @@ pub overflow_add-from-then-i-entries : goal.overflow_add-from-then-i-entries
 overflow_add-from-then-i-entries c = omega (arith, within c.args.sheet.now c.requires.0 c.requires.1 (c.if-len-progress_at.false ∙ due c.args.sheet.now c.requires.1 c.progress_at.ensures), c.if-i-entries.true)
 
 pub returns-then-i-entries : goal.returns-then-i-entries
-returns-then-i-entries c = 
+returns-then-i-entries c =
     c.refusal-then-i-entries.ensures
     ∙ refuses _ (bad-leading _ _ (c.if-len-progress_at.false ∙ due c.args.sheet.now c.requires.1 c.progress_at.ensures) (states c.args.sheet.now c.requires.1) (letters c.args.sheet.now c.requires.1) c.first_outside-i.ensures c.if-i-entries.true)
 
 pub check_progress-requires : goal.check_progress-requires
-check_progress-requires c = 
+check_progress-requires c =
     (c.requires.0, (c.if-len-progress_at.false ∙ due c.args.sheet.now c.requires.1 c.progress_at.ensures), c.requires.1)
 
 pub returns : goal.returns
-returns c = 
+returns c =
     c.check_progress.ensures
     ∙ ap (λ (f : Fault). unless f c.args.z) (sym (good-leading _ _ (c.if-len-progress_at.false ∙ due c.args.sheet.now c.requires.1 c.progress_at.ensures) (states c.args.sheet.now c.requires.1) (letters c.args.sheet.now c.requires.1) c.first_outside-i.ensures c.if-i-entries.false))

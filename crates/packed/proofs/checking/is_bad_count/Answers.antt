@@ -1,6 +1,5 @@
 -- `packed::checking::is_bad_count` meets its contract. Assumes nothing.
 use mathlib.Core.Path.{ap, ◌∙◌}
-use borrow.Author.Rules.{rules}
 use Rattle.slices.specs.Scans.{outside}
 use Rattle.packed.proofs.checking.is_bad_count.Goals as goal
 

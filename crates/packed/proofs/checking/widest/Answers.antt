@@ -1,10 +1,9 @@
 -- `packed::checking::widest` meets its contract. Assumes nothing.
 use mathlib.Core.Path.{◌≡◌, refl, ap, ◌∙◌}
-use Prim.Native.Nat.{ℕ, max, ◌+◌, ◌-◌, ◌≤◌}
+use Prim.Native.Nat.{ℕ, max, ◌+◌, ◌≤◌}
 use native.Mathlib.Omega.{arith}
 use native.Mathlib.Numerals.{add-one}
 use Rattle.slices.specs.Extremes.{largest}
-use Rattle.packed.specs.Layout.{size_of}
 use borrow.Author.Rules.{rules}
 use Rattle.packed.proofs.checking.widest.Goals as goal
 use Rattle.packed.proofs.checking.widest.Goals.{then-most-k, else-most-k}
@@ -21,7 +20,7 @@ unfolding largest
 loop-q-init c = (search rules, refl)
 
 pub loop-q-preserved : goal.loop-q-preserved
-loop-q-preserved c = 
+loop-q-preserved c =
     (search rules, larger _ c.loop-q.q c.loop-q.most _ c.loop-q.invariant.1 (elim c.if-most-k.branch [ then-most-k w ↦ omega (arith, c.size-k.ensures) | else-most-k w ↦ omega (arith, c.size-k.ensures) ]))
 
 pub returns : goal.returns

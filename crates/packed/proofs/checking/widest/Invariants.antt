@@ -1,12 +1,8 @@
 -- The loops of `packed::checking::widest`.
-use mathlib.Core.Path.{◌≡◌, refl, ap, ◌∙◌}
-use mathlib.Core.Logic.{⊎_elim}
-use Prim.Native.Nat.{ℕ, max, ◌+◌, ◌-◌, ◌≤◌}
-use native.Mathlib.Omega.{arith}
-use native.Mathlib.Numerals.{add-one}
+use mathlib.Core.Path.{◌≡◌}
+use Prim.Native.Nat.{◌-◌, ◌≤◌}
 use Rattle.slices.specs.Extremes.{largest}
 use Rattle.packed.specs.Layout.{size_of}
-use borrow.Author.Rules.{rules}
 use Rattle.packed.proofs.checking.widest.Given as goal
 
 abbrev pub invariant-loop-q : goal.invariant-loop-q

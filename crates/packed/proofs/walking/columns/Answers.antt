@@ -1,10 +1,8 @@
 -- `packed::walking::columns` meets its contract: cell after cell. Assumes nothing.
-use Prim.Native.Nat.{◌*◌, ◌-◌}
 use native.Mathlib.Omega.{arith}
 use lib.ListN.{length-replicate}
-use Rattle.slices.proofs.Filling.{Filling, filling-none, filling-more, filling-all}
-use Rattle.packed.specs.Columns.{column_cell, columns_of}
-use borrow.Author.Rules.{rules}
+use Rattle.slices.proofs.Filling.{filling-none, filling-more, filling-all}
+use Rattle.packed.specs.Columns.{columns_of}
 use Rattle.packed.proofs.walking.columns.Goals as goal
 
 pub loop-i-init : goal.loop-i-init

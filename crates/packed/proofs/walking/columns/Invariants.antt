@@ -1,10 +1,7 @@
 -- The loops of `packed::walking::columns`.
 use Prim.Native.Nat.{◌*◌, ◌-◌}
-use native.Mathlib.Omega.{arith}
-use lib.ListN.{length-replicate}
-use Rattle.slices.proofs.Filling.{Filling, filling-none, filling-more, filling-all}
-use Rattle.packed.specs.Columns.{column_cell, columns_of}
-use borrow.Author.Rules.{rules}
+use Rattle.slices.proofs.Filling.{Filling}
+use Rattle.packed.specs.Columns.{column_cell}
 use Rattle.packed.proofs.walking.columns.Given as goal
 
 abbrev pub invariant-loop-i : goal.invariant-loop-i

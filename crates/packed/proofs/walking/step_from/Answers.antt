@@ -6,7 +6,6 @@ use native.Mathlib.Omega.{arith}
 use lib.ListN.{length, get_or, take, drop, length-drop}
 use lib.Seq.{get_or-drop}
 use Rattle.slices.proofs.Filling.{rest-lent}
-use borrow.Author.Rules.{rules}
 use Rattle.packed.proofs.walking.step_from.Goals as goal
 
 part_length : (t : List ℕ) (n : ℕ) → length (take (length t - n) (drop n t)) ≡ length t - n

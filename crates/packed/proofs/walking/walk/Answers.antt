@@ -1,7 +1,7 @@
 -- `packed::walking::walk` meets its contract: after i letters it stands where the walk over them leads. Assumes nothing.
 use mathlib.Core.Path.{◌≡◌, refl, ◌∙◌}
 use mathlib.Core.List.{List}
-use Prim.Native.Nat.{ℕ, ◌+◌, ◌*◌, ◌-◌, ◌≤◌, ◌<◌}
+use Prim.Native.Nat.{ℕ, ◌+◌, ◌*◌, ◌<◌}
 use lib.ListN.{length, get_or, take}
 use Rattle.fdfa.specs.Family.{walk}
 use Rattle.fdfa.proofs.Words.{walk-on, walk-all}
@@ -20,11 +20,10 @@ pub step-q-requires : goal.step-q-requires
 step-q-requires c = reads _ _ _ _ _ c.loop-i.i c.requires c.loop-i-test.true c.loop-i.invariant.1 c.wide.ensures
 
 pub loop-i-preserved : goal.loop-i-preserved
-loop-i-preserved c = 
-    (
-      search rules,
-      c.step-q.ensures ∙ walk-on (column_step c.args.table.now) _ c.args.word.now c.loop-i.i c.loop-i-test.true c.loop-i.invariant.1 c.wide.ensures,
-    )
+loop-i-preserved c = (
+  search rules,
+  c.step-q.ensures ∙ walk-on (column_step c.args.table.now) _ c.args.word.now c.loop-i.i c.loop-i-test.true c.loop-i.invariant.1 c.wide.ensures,
+)
 
 pub returns : goal.returns
 returns c = c.loop-i.invariant.1 ∙ walk-all _ _ _ c.loop-i.i c.loop-i-test.false

@@ -1,12 +1,9 @@
 -- The loops of `packed::walking::walk`.
-use mathlib.Core.Path.{◌≡◌, refl, ◌∙◌}
-use mathlib.Core.List.{List}
-use Prim.Native.Nat.{ℕ, ◌+◌, ◌*◌, ◌-◌, ◌≤◌, ◌<◌}
-use lib.ListN.{length, get_or, take}
+use mathlib.Core.Path.{◌≡◌}
+use Prim.Native.Nat.{◌-◌, ◌≤◌}
+use lib.ListN.{length, take}
 use Rattle.fdfa.specs.Family.{walk}
-use Rattle.fdfa.proofs.Words.{walk-on, walk-all}
-use Rattle.packed.specs.Columns.{column_step, Walkable}
-use borrow.Author.Rules.{rules}
+use Rattle.packed.specs.Columns.{column_step}
 use Rattle.packed.proofs.walking.walk.Given as goal
 
 abbrev pub invariant-loop-i : goal.invariant-loop-i
