@@ -1,0 +1,29 @@
+-- `search::clear` meets its contract. Assumes nothing.
+use Prim.Native.Nat.{◌-◌}
+use native.Mathlib.Omega.{arith}
+use native.Mathlib.Nat.{le_refl}
+use mathlib.Core.Path.{refl}
+use lib.ListN.{length}
+use Rattle.slices.proofs.Filling.{Filling, filling-none, filling-more, filling-value}
+use Rattle.search.proofs.clear.Goals as goal
+
+pub loop-i-init : goal.loop-i-init
+loop-i-init c = filling-none _ _ _ (le_refl _)
+
+pub offset_bounds-cells-i : goal.offset_bounds-cells-i
+offset_bounds-cells-i c = let i = c.loop-i.invariant in omega (arith, i.same, c.loop-i-test.true)
+
+pub bounds-cells-i : goal.bounds-cells-i
+bounds-cells-i c = c.loop-i-test.true
+
+pub overflow_add-i : goal.overflow_add-i
+overflow_add-i c = let i = c.loop-i.invariant in omega (arith, i.same, c.loop-i-test.true)
+
+pub loop-i-smaller : goal.loop-i-smaller
+loop-i-smaller c = let i = c.loop-i.invariant in omega (arith, i.same, c.loop-i-test.true)
+
+pub loop-i-preserved : goal.loop-i-preserved
+loop-i-preserved c = let i = c.loop-i.invariant in filling-more 0 i (omega (arith, i.same, c.loop-i-test.true)) refl
+
+pub returns : goal.returns
+returns c = let i = c.loop-i.invariant in filling-value i (omega (arith, i.same, c.loop-i-test.false))
