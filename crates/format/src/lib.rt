@@ -32,7 +32,7 @@ pub enum Lines {
 }
 
 // The numbers that a column takes, from `low` to `limit` − 1, and the refusal of any other.
-#[derive(Drop)]
+#[derive(Clone, Copy)]
 pub struct Column {
     pub low: usize,
     pub limit: usize,
@@ -40,7 +40,7 @@ pub struct Column {
 }
 
 // The columns of a row: three, and those after them.
-#[derive(Drop)]
+#[derive(Clone, Copy)]
 pub struct Row {
     pub first: Column,
     pub second: Column,

@@ -1,0 +1,20 @@
+-- The loops of `format::reading::read_row`.
+use mathlib.Core.Path.{◌≡◌, refl, ap, sym, ◌∙◌}
+use Prim.Native.Nat.{ℕ, ◌-◌, ◌<◌}
+use native.Mathlib.Omega.{arith}
+use Rattle.format.specs.declared.Row.{Row}
+use Rattle.format.specs.Format.{Format, reading, Fits}
+use Rattle.format.specs.Rows.{separator, column_of, cell, row}
+use Rattle.format.specs.Steps.{cell_says}
+use Rattle.format.proofs.Repeating.{Partly, partly_none, step-was, partly-cell, partly-refused, partly-all}
+use borrow.Author.Rules.{rules}
+use Rattle.format.proofs.reading.read_row.Given as goal
+
+abbrev pub cells : Row → ℕ → Format
+cells r i = cell (column_of r i) (separator r.count i)
+
+abbrev pub invariant-loop-i : goal.invariant-loop-i
+invariant-loop-i l = Partly l.part l.text (cells l.r) l.count l.at l.initial.values l.values l.p l.i l.i
+
+abbrev pub decreases-loop-i : goal.decreases-loop-i
+decreases-loop-i l = l.count - l.i
