@@ -188,7 +188,13 @@ pub fn read_rows(
     let mut w = 0;
     let mut i = 0;
     while i < count {
-        let step = read_row(text, p, numbered(r, turn, i), &mut values[w..], again(&part));
+        let step = read_row(
+            text,
+            p,
+            numbered(r, turn, i),
+            &mut values[w..],
+            again(&part),
+        );
         match step {
             Step::Refused(x) => {
                 return Step::Refused(x);

@@ -1,6 +1,5 @@
 -- `format::labelled::stands` meets its contract. Assumes nothing.
 use borrow.Author.Tests.{lt-ltb, le-ltb}
-use borrow.Author.Rules.{rules}
 use Rattle.format.proofs.labelled.stands.Goals as goal
 
 pub returns-then-text-at : goal.returns-then-text-at

@@ -1,6 +1,5 @@
 -- `format::reading::numbered` meets its contract. Assumes nothing.
 use borrow.Author.Tests.{eq-eqb, ne_eqb}
-use borrow.Author.Rules.{rules}
 use Rattle.format.proofs.reading.numbered.Goals as goal
 
 pub returns-then-turn-eq0 : goal.returns-then-turn-eq0

@@ -1,7 +1,6 @@
 -- `format::reading::peek` meets its contract. Assumes nothing.
 use mathlib.Core.Path.{ap, sym, ◌∙◌}
 use Rattle.format.specs.Steps.{peeked}
-use borrow.Author.Rules.{rules}
 use Rattle.format.proofs.reading.peek.Goals as goal
 
 pub returns-in-Refused : goal.returns-in-Refused

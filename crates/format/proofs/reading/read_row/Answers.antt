@@ -8,7 +8,7 @@ use Rattle.slices.specs.Refusals.{given}
 use Rattle.format.specs.declared.Row.{Row}
 use Rattle.format.specs.declared.Column.{Column}
 use Rattle.format.specs.declared.Cell.{Cell}
-use Rattle.format.specs.Format.{Format, reading, Fits}
+use Rattle.format.specs.Format.{reading, Fits}
 use Rattle.format.specs.Rows.{separator, column_of, cell, row}
 use Rattle.format.specs.Steps.{cell_says}
 use Rattle.format.proofs.Repeating.{Partly, partly_none, step-was, partly-cell, partly-refused, partly-all}

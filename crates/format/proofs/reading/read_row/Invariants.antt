@@ -1,13 +1,9 @@
 -- The loops of `format::reading::read_row`.
-use mathlib.Core.Path.{◌≡◌, refl, ap, sym, ◌∙◌}
-use Prim.Native.Nat.{ℕ, ◌-◌, ◌<◌}
-use native.Mathlib.Omega.{arith}
+use Prim.Native.Nat.{ℕ, ◌-◌}
 use Rattle.format.specs.declared.Row.{Row}
-use Rattle.format.specs.Format.{Format, reading, Fits}
-use Rattle.format.specs.Rows.{separator, column_of, cell, row}
-use Rattle.format.specs.Steps.{cell_says}
-use Rattle.format.proofs.Repeating.{Partly, partly_none, step-was, partly-cell, partly-refused, partly-all}
-use borrow.Author.Rules.{rules}
+use Rattle.format.specs.Format.{Format}
+use Rattle.format.specs.Rows.{separator, column_of, cell}
+use Rattle.format.proofs.Repeating.{Partly}
 use Rattle.format.proofs.reading.read_row.Given as goal
 
 abbrev pub cells : Row → ℕ → Format

@@ -1,13 +1,8 @@
 -- The loops of `format::writing::put_literal`.
-use mathlib.Core.Path.{◌≡◌, ap, ◌∙◌}
-use Prim.Native.Nat.{ℕ, ◌-◌, ◌≤◌}
-use native.Mathlib.Omega.{arith}
+use Prim.Native.Nat.{◌-◌, ◌≤◌}
 use lib.ListN.{length, get_or}
 use Rattle.slices.specs.Tables.{tab}
-use Rattle.slices.proofs.Tables.{length-tab, tab-get_or}
 use Rattle.numbers.specs.Storing.{Stored}
-use Rattle.numbers.proofs.Stores.{stored-none-tab, stored-entry, stored-length, stored-as}
-use borrow.Author.Rules.{rules}
 use Rattle.format.proofs.writing.put_literal.Given as goal
 
 abbrev pub invariant-loop-i : goal.invariant-loop-i

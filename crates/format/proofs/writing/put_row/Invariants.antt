@@ -1,16 +1,11 @@
 -- The loops of `format::writing::put_row`.
-use mathlib.Core.Path.{◌≡◌, ap}
 use mathlib.Core.List.{List}
 use Prim.Native.Nat.{ℕ, ◌-◌, ◌≤◌}
-use native.Mathlib.Omega.{arith}
 use lib.ListN.{length, get_or}
 use Rattle.slices.specs.Tables.{rows}
-use Rattle.slices.proofs.Tables.{rows-within}
 use Rattle.numbers.specs.Digits.{field}
 use Rattle.numbers.specs.Storing.{Stored}
-use Rattle.numbers.proofs.Stores.{stored-none-rows, stored_row, stored-length, stored-as}
 use Rattle.format.specs.Rows.{separator}
-use borrow.Author.Rules.{rules}
 use Rattle.format.proofs.writing.put_row.Given as goal
 
 -- the i-th number and the byte that ends it

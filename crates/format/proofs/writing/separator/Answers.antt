@@ -1,6 +1,5 @@
 -- `format::writing::separator` meets its contract. Assumes nothing.
 use borrow.Author.Tests.{eq-eqb, ne_eqb}
-use borrow.Author.Rules.{rules}
 use Rattle.format.proofs.writing.separator.Goals as goal
 
 pub returns-then-i-count : goal.returns-then-i-count
