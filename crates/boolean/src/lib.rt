@@ -17,7 +17,7 @@ use slices::{Part, Written, refuse};
 use writing::{product_length, write_product};
 
 // Which marks of a pair make it marked.
-#[derive(Drop)]
+#[derive(Clone, Copy)]
 pub enum Operation {
     Both,
     Either,

@@ -21,21 +21,21 @@ const STATES: usize = 16;
 const LETTERS: usize = 32;
 
 // A transition: its letter, its state, where it leads, and the place after its line; or the refusal.
-#[derive(Drop)]
+#[derive(Clone, Copy)]
 enum Move {
     Read(usize, usize, usize, usize),
     Refused(Refusal),
 }
 
 // How many transitions were read, how many of them of state 0, and the place after them; or the refusal.
-#[derive(Drop)]
+#[derive(Clone, Copy)]
 enum Moves {
     Counted(usize, usize, usize),
     Refused(Refusal),
 }
 
 // How many letters and states an automaton has; or the refusal.
-#[derive(Drop)]
+#[derive(Clone, Copy)]
 enum Drawn {
     Sized(usize, usize),
     Refused(Refusal),

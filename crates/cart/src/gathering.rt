@@ -9,7 +9,7 @@ use crate::saying::put_kept;
 use cart_files::{Collected, add_show, start};
 
 // What is held of the shows that came, and how many bytes the words of a refusal are.
-#[derive(Drop)]
+#[derive(Clone, Copy)]
 pub struct Gathering {
     pub held: Collected,
     pub said: usize,

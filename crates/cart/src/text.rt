@@ -13,7 +13,7 @@ use numbers::put_field;
 pub const TEXT: usize = 80;
 
 // What is decided, and how many bytes are printed.
-#[derive(Drop)]
+#[derive(Clone, Copy)]
 pub struct Decision {
     pub answer: Loading,
     pub text: usize,

@@ -10,7 +10,7 @@ pub use verdicts::{judge, load};
 
 // What loading a cart answers: how many bytes are loaded, or the index of the first show that is rejected, from 0; or
 // the refusal.
-#[derive(Drop)]
+#[derive(Clone, Copy)]
 pub enum Loading {
     Loaded(usize),
     Rejected(usize),
@@ -18,7 +18,7 @@ pub enum Loading {
 }
 
 // Where a show lies: where its prefix begins, where its period does, and where it ends.
-#[derive(Drop)]
+#[derive(Clone, Copy)]
 struct Span {
     prefix: usize,
     period: usize,

@@ -14,7 +14,7 @@ use wording::refusal_words;
 const SCENES: usize = 4096;
 
 // How many bytes are printed, and how many said.
-#[derive(Drop)]
+#[derive(Clone, Copy)]
 pub struct Printed {
     pub text: usize,
     pub said: usize,

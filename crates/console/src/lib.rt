@@ -20,7 +20,7 @@ const LONGEST: usize = 65536;
 pub const ROOM: usize = LONGEST + 1;
 
 // What an argument is: a name, the end of the options, `--explain`, or another option.
-#[derive(Drop)]
+#[derive(Clone, Copy)]
 enum Word {
     Name,
     End,
@@ -29,7 +29,7 @@ enum Word {
 }
 
 // What the arguments ask for: the usage, an explanation, and how many names there are; the last two by their place.
-#[derive(Drop)]
+#[derive(Clone, Copy)]
 pub struct Asked {
     pub usage: bool,
     pub explain: bool,
@@ -39,7 +39,7 @@ pub struct Asked {
 }
 
 // Whether a file is short enough, or refusal 25.
-#[derive(Drop)]
+#[derive(Clone, Copy)]
 pub enum Length {
     Good,
     Refused(Refusal),

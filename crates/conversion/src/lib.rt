@@ -13,7 +13,7 @@ use telling::tell;
 use unpacking::{save_imported, save_unpacked};
 
 // From text to packed sheet, or back; from the text of an automaton to the packed sheet of its family.
-#[derive(Drop)]
+#[derive(Clone, Copy)]
 pub enum Way {
     Pack,
     Unpack,
@@ -22,7 +22,7 @@ pub enum Way {
 
 // What packing a text answers: its level, and how many bytes of the packed sheet and of the seconds are filled; or the
 // refusal.
-#[derive(Drop)]
+#[derive(Clone, Copy)]
 enum Packed {
     Filled(usize, usize, usize),
     Refused(Refusal),

@@ -14,14 +14,14 @@ pub enum Phase {
     Period,
 }
 
-#[derive(Drop)]
+#[derive(Clone, Copy)]
 pub struct Cursor {
     pub phase: Phase,
     pub at: usize,
 }
 
 // What a step says: the letter that it passed and the cursor moved, or the refusal and the cursor as it was.
-#[derive(Drop)]
+#[derive(Clone, Copy)]
 pub enum Step {
     Passed(u8, Cursor),
     Refused(Refusal, Cursor),

@@ -9,7 +9,7 @@ use durations_files::write_files;
 use slices::Written;
 
 // How many bytes are printed, and how many said.
-#[derive(Drop)]
+#[derive(Clone, Copy)]
 pub struct Printed {
     pub text: usize,
     pub said: usize,

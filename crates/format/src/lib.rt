@@ -11,21 +11,21 @@ use slices::Refusal;
 pub use writing::{put_literal, put_row};
 
 // How reading goes on: at the next place, or not at all.
-#[derive(Drop)]
+#[derive(Clone, Copy)]
 pub enum Step {
     Next(usize),
     Refused(Refusal),
 }
 
 // A number that is read, with the place after the byte that ends it; or the refusal.
-#[derive(Drop)]
+#[derive(Clone, Copy)]
 pub enum Cell {
     Read(usize, usize),
     Refused(Refusal),
 }
 
 // How many lines were read, with the place after them; or the refusal.
-#[derive(Drop)]
+#[derive(Clone, Copy)]
 pub enum Lines {
     Counted(usize, usize),
     Refused(Refusal),

@@ -19,7 +19,7 @@ use slices::{Part, Refusal, narrow, refuse};
 pub use standing::Standing;
 
 // R, the lengths of the lasso that was written, and where each sheet stands on it; 0 where there is no lasso or no second sheet.
-#[derive(Drop)]
+#[derive(Clone, Copy)]
 pub struct Comparison {
     pub reached: usize,
     pub prefix: usize,
@@ -29,7 +29,7 @@ pub struct Comparison {
 }
 
 // What a call says: that there is no such lasso, of whatever length; that it wrote the first one; or the refusal.
-#[derive(Drop)]
+#[derive(Clone, Copy)]
 pub enum Outcome {
     Absent(Comparison),
     Found(Comparison),

@@ -16,7 +16,7 @@ use slices::Refusal;
 use telling::tell;
 
 // R, and the lengths of the lasso that was written, 0 where there is none.
-#[derive(Drop)]
+#[derive(Clone, Copy)]
 pub struct Finding {
     pub reached: usize,
     pub prefix: usize,
@@ -24,7 +24,7 @@ pub struct Finding {
 }
 
 // What the search says: that there is no such lasso, of whatever length; that it wrote the first one; or the refusal.
-#[derive(Drop)]
+#[derive(Clone, Copy)]
 pub enum Reported {
     Absent(Finding),
     Found(Finding),
@@ -32,14 +32,14 @@ pub enum Reported {
 }
 
 // What the search found: R, and the codes of the first lasso's prefix and period.
-#[derive(Drop)]
+#[derive(Clone, Copy)]
 pub enum Codes {
     Absent(usize),
     Found(usize, usize, usize),
 }
 
 // A leading state to search from: its code, its number, and how many pairs of progress states it has.
-#[derive(Drop)]
+#[derive(Clone, Copy)]
 pub struct Candidate {
     pub code: usize,
     pub state: usize,

@@ -12,7 +12,7 @@ pub use writing::{put_lasso, write};
 const LETTERS: usize = 32;
 
 // What reading answers: the lengths of prefix and period, which are filled; or the refusal.
-#[derive(Drop)]
+#[derive(Clone, Copy)]
 pub enum Lengths {
     Filled(usize, usize),
     Refused(Refusal),

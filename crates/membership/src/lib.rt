@@ -16,7 +16,7 @@ use slices::{Letters, Part, Refusal, check_period, refuse};
 
 // The verdict: whether the lasso is accepted, i and j, the leading state q after u and i turns, and the state of q's
 // progress automaton after j turns.
-#[derive(Drop)]
+#[derive(Clone, Copy)]
 pub enum Judgement {
     Given {
         accepted: bool,
@@ -29,14 +29,14 @@ pub enum Judgement {
 }
 
 // What the check of a lasso says: the leading state that the pass over the prefix reached, or the refusal.
-#[derive(Drop)]
+#[derive(Clone, Copy)]
 enum Checked {
     Lasso(usize),
     Refused(Refusal),
 }
 
 // The normalization of a lasso: i, j and q.
-#[derive(Drop)]
+#[derive(Clone, Copy)]
 struct Normalization {
     i: usize,
     j: usize,
@@ -44,7 +44,7 @@ struct Normalization {
 }
 
 // Where the progress automaton ends, and whether it accepts there.
-#[derive(Drop)]
+#[derive(Clone, Copy)]
 struct Ended {
     end: usize,
     accepted: bool,

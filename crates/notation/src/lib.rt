@@ -9,7 +9,7 @@ use slices::Refusal;
 pub use writing::write;
 
 // What reading a text answers: its level and the length filled, or the refusal.
-#[derive(Drop)]
+#[derive(Clone, Copy)]
 pub enum Levelled {
     Filled(usize, usize),
     Refused(Refusal),

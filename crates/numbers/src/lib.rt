@@ -11,14 +11,14 @@ use slices::Refusal;
 pub use writing::{put, put_field, put_small, small_width, width};
 
 // The number at a place, with the place after it; or the refusal.
-#[derive(Drop)]
+#[derive(Clone, Copy)]
 pub enum Number {
     Good(usize, usize),
     Refused(Refusal),
 }
 
 // A lent text, and the place that reading has reached.
-#[derive(Drop)]
+#[derive(Clone, Copy)]
 pub struct Reader<'a> {
     pub text: &'a [u8],
     pub at: usize,

@@ -12,7 +12,7 @@ use slices::{Refusal, wide};
 pub use walking::{columns, step, step_from, walk};
 
 // The counts of a sheet: s, n and the largest k(q).
-#[derive(Drop)]
+#[derive(Clone, Copy)]
 pub struct Sizes {
     pub letters: usize,
     pub states: usize,
@@ -20,14 +20,14 @@ pub struct Sizes {
 }
 
 // What the check of a sheet says.
-#[derive(Drop)]
+#[derive(Clone, Copy)]
 pub enum Validity {
     Valid(Sizes),
     Refused(Refusal),
 }
 
 // What the check of two sheets says.
-#[derive(Drop)]
+#[derive(Clone, Copy)]
 pub enum Validities {
     Valid(Sizes, Sizes),
     Refused(Refusal),

@@ -16,7 +16,7 @@ pub use tabulating::tabulate;
 
 // Two automata side by side: where the tables, or the marks, of each begin in its sheet, the number of letters, and the size
 // of the second.
-#[derive(Drop)]
+#[derive(Clone, Copy)]
 pub struct Beside {
     pub first: usize,
     pub second: usize,
@@ -26,7 +26,7 @@ pub struct Beside {
 
 // The sizes of two sheets with the same letters: the leading states of each, the pairs of those (N), and the largest number
 // of pairs of progress states (K).
-#[derive(Drop)]
+#[derive(Clone, Copy)]
 pub struct PairSizes {
     pub letters: usize,
     pub first: usize,
@@ -36,7 +36,7 @@ pub struct PairSizes {
 }
 
 // What the check of two sheets says.
-#[derive(Drop)]
+#[derive(Clone, Copy)]
 pub enum Sized {
     Paired(PairSizes),
     Refused(Refusal),

@@ -16,14 +16,14 @@ use slices::{Part, Refusal, sum, wide};
 
 // What the pass holds: the leading state reached and how many letters were passed, or where it failed: the position of the first unknown
 // letter, or the one that was held with a state which the sheet has not.
-#[derive(Drop)]
+#[derive(Clone, Copy)]
 pub enum Held {
     Reached { state: usize, at: usize },
     Unknown(usize),
 }
 
 // What a pass over a part says: what it then holds, or the refusal of the sheet.
-#[derive(Drop)]
+#[derive(Clone, Copy)]
 pub enum Passed {
     Holds(Held),
     Refused(Refusal),

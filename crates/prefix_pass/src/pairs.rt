@@ -8,7 +8,7 @@ use packed::{step, step_from};
 use slices::{narrow, wide};
 
 // How far a pass went, and the state there.
-#[derive(Drop)]
+#[derive(Clone, Copy)]
 pub struct Reach {
     pub state: usize,
     pub passed: usize,

@@ -11,7 +11,7 @@ pub use saving::{save, save_both};
 
 // What is ready to be written: nothing; a device or a pipe, to be opened; a file that is open, and the length that it
 // had; or a file beside the one to be made, the length of its name, and whether the one to be made is new.
-#[derive(Drop)]
+#[derive(Clone, Copy)]
 enum Staged {
     Failed,
     Stream,

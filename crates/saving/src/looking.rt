@@ -20,7 +20,7 @@ pub const OTHER: u8 = 2;
 const RIGHTS: u32 = 0o7777;
 
 // What stands at a path, links followed: its kind, who may do what with it, whose it is, and which one it is.
-#[derive(Drop)]
+#[derive(Clone, Copy)]
 pub struct Seen {
     pub kind: u8,
     pub mode: u32,

@@ -12,7 +12,7 @@ pub use reading::{depth, fill};
 use slices::{wide, wide16};
 
 // How the search goes on: with so many codes found, or an ending met, by its code.
-#[derive(Drop)]
+#[derive(Clone, Copy)]
 pub enum Expansion {
     On(usize),
     Ending(usize),

@@ -14,7 +14,7 @@ use slices::{Part, Refusal, Written, copy};
 pub const SHEET: usize = 34850;
 
 // How a file's bytes are read.
-#[derive(Drop)]
+#[derive(Clone, Copy)]
 pub enum Form {
     Text,
     Drawn,

@@ -18,7 +18,7 @@ pub use scanning::{first_outside, first_unknown, is_outside};
 pub use timed::check_seconds;
 
 // What a refusal concerns. A sheet or text that stands alone is `First`.
-#[derive(Drop)]
+#[derive(Clone, Copy)]
 pub enum Part {
     First,
     Second,
@@ -31,7 +31,7 @@ pub enum Part {
 }
 
 // Why a call gives no answer: the number of the reason, what it concerns, and the place there.
-#[derive(Drop)]
+#[derive(Clone, Copy)]
 pub struct Refusal {
     pub number: u8,
     pub part: Part,
@@ -39,21 +39,21 @@ pub struct Refusal {
 }
 
 // What a call that fills the out slice answers: the length filled, or the refusal.
-#[derive(Drop)]
+#[derive(Clone, Copy)]
 pub enum Written {
     Filled(usize),
     Refused(Refusal),
 }
 
 // Whether a lasso is one over some letters, or the refusal.
-#[derive(Drop)]
+#[derive(Clone, Copy)]
 pub enum Letters {
     Known,
     Refused(Refusal),
 }
 
 // Whether letters have their seconds, or the refusal.
-#[derive(Drop)]
+#[derive(Clone, Copy)]
 pub enum Timing {
     Good,
     Refused(Refusal),

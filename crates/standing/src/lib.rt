@@ -14,20 +14,20 @@ use pairing::Beside;
 use slices::wide;
 
 // Where one sheet stands.
-#[derive(Drop)]
+#[derive(Clone, Copy)]
 pub struct Standing {
     pub waits: usize,
     pub ends: usize,
 }
 
-#[derive(Drop)]
+#[derive(Clone, Copy)]
 pub struct Standings {
     pub first: Standing,
     pub second: Standing,
 }
 
 // A state of each of two automata.
-#[derive(Drop)]
+#[derive(Clone, Copy)]
 struct Pair {
     first: usize,
     second: usize,

@@ -17,7 +17,7 @@ use wording::show_words;
 pub const SAID: usize = 4608;
 
 // How many bytes are printed, and how many said.
-#[derive(Drop)]
+#[derive(Clone, Copy)]
 pub struct Printed {
     pub text: usize,
     pub said: usize,

@@ -9,7 +9,7 @@ pub use scenes::{is_scene, put_scene, scene_position, show_words};
 pub use words::{WORDS, refusal_words};
 
 // A place of a text: its line and its column, from 1.
-#[derive(Drop)]
+#[derive(Clone, Copy)]
 pub struct Position {
     pub line: usize,
     pub column: usize,
