@@ -2,7 +2,7 @@
 # Proofs are rt's (the Rattle toolchain): scripts/prove runs it, and says one line for each crate that is proved.
 
 # One archive is made of these libraries; each has the exports of its own crate.
-LIBRARIES = players c_sheet c_search c_text c_show c_cart c_walk
+LIBRARIES = players c_sheet c_search_c c_text c_show c_cart c_walk
 PROGRAMS = compare verdict pack unpack import durations cart
 VERSION = 0.1.0
 
@@ -21,9 +21,9 @@ INSTALL_DATA = $(INSTALL) -m 644
 archives = $(LIBRARIES:%=target/staticlib/lib%.a)
 programs = $(PROGRAMS:%=target/bin/%)
 
-# rt keeps its state in target/: one recipe at a time.
+# rt works in crates/NAME/out, and each crate waits for those that it uses: one recipe at a time.
 .NOTPARALLEL:
-# What a stopped run has made stays; scripts/prove removes what is not finished.
+# What a stopped run has made stays; scripts/prove makes each of them whole or not at all.
 .PRECIOUS: $(archives) $(programs)
 .PHONY: all lib programs test bench install uninstall clean help
 unexport CDPATH
@@ -75,8 +75,8 @@ uninstall: ## removes what install put there; folders stay
 	rm -f '$(DESTDIR)$(libdir)/libfdfa.a' '$(DESTDIR)$(includedir)/fdfa.h' '$(DESTDIR)$(pkgconfigdir)/fdfa.pc'
 	rm -f $(PROGRAMS:%='$(DESTDIR)$(bindir)'/fdfa-%) '$(DESTDIR)$(bindir)/fdfa'
 
-clean: ## removes target/
-	rm -rf target
+clean: ## removes target/, and what rt keeps in crates/*/out
+	rm -rf target crates/*/out
 
 help: ## this list
 	@sed -n 's/^\([a-z]*\):.*## \(.*\)/\1|\2/p' Makefile | while IFS='|' read -r name text; do printf '%-10s %s\n' "$$name" "$$text"; done

@@ -20,7 +20,7 @@ stop() {
 }
 
 for program in cart compare durations import pack unpack verdict; do
-    [ -x "$bin/$program" ] || stop "not built: $program (rt check $program)"
+    [ -x "$bin/$program" ] || stop "not built: $program (make programs)"
 done
 trap '[ -z "$top" ] || rm -rf "$top"' EXIT
 top=$(mktemp -d) && top=$(realpath -e -- "$top") && [ "$top" != / ] || stop 'there is no folder for temporary files'
