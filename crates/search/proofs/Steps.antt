@@ -13,8 +13,8 @@ use lib.Dec.{ltb}
 use lib.ListN.{length, get_or, set, length-set}
 use lib.Seq.{get_or-set_same, get_or-set_other, set-get_or}
 use borrow.Author.Tests.{lt-ltb, le-ltb}
-use Rattle.search.specs.Words.{Word, ε, ◌·◌, ◌⊏◌, ◌⊑◌, last, less, Over}
-use Rattle.search.specs.Queue.{entry, met}
+use Rattle.search.specs.Words.{Word, ε, ◌·◌, ◌⊏◌, last, less, Over}
+use Rattle.search.specs.Queue.{entry}
 use Rattle.search.specs.Paths.{Path, at_root, at_step}
 use Rattle.search.specs.Search.{Space, reach, Bounded, Hit, Entry, Search, Ends}
 use Rattle.search.proofs.Shortlex.{⊏-trans, ⊑-of-eq}

@@ -5,7 +5,7 @@ use Prim.Native.Nat.{ℕ, ◌+◌, ◌*◌, ◌≤◌, ◌<◌}
 use mathlib.Core.List.{List}
 use native.Mathlib.Omega.{arith}
 use native.Mathlib.Decide.{dec_lt}
-use Rattle.search.specs.Words.{Word, ε, ◌·◌, ◌⊏◌, ◌⊑◌, front, last, less, Over}
+use Rattle.search.specs.Words.{Word, ε, ◌·◌, ◌⊑◌, front, last, less, Over}
 use Rattle.search.specs.Search.{Space, reach, Bounded, Hit, Search}
 use Rattle.search.proofs.Shortlex.{⊑⊏, ⊑_trans, grows, ⊑-snoc, ⊑-of-eq}
 

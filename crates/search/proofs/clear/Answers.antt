@@ -1,10 +1,8 @@
 -- `search::clear` meets its contract. Assumes nothing.
-use Prim.Native.Nat.{◌-◌}
 use native.Mathlib.Omega.{arith}
 use native.Mathlib.Nat.{le_refl}
 use mathlib.Core.Path.{refl}
-use lib.ListN.{length}
-use Rattle.slices.proofs.Filling.{Filling, filling-none, filling-more, filling-value}
+use Rattle.slices.proofs.Filling.{filling-none, filling-more, filling-value}
 use Rattle.search.proofs.clear.Goals as goal
 
 pub loop-i-init : goal.loop-i-init

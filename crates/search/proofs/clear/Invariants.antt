@@ -1,10 +1,7 @@
 -- The loops of `search::clear`.
 use Prim.Native.Nat.{◌-◌}
-use native.Mathlib.Omega.{arith}
-use native.Mathlib.Nat.{le_refl}
-use mathlib.Core.Path.{refl}
 use lib.ListN.{length}
-use Rattle.slices.proofs.Filling.{Filling, filling-none, filling-more, filling-value}
+use Rattle.slices.proofs.Filling.{Filling}
 use Rattle.search.proofs.clear.Given as goal
 
 abbrev pub invariant-loop-i : goal.invariant-loop-i

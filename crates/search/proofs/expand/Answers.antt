@@ -15,7 +15,7 @@ use Rattle.search.proofs.expand.Goals as goal
 
 -- what is known of the state that is expanded
 module _ {leads rows status₀ cells₀ : List ℕ} {n s root total head place : ℕ} (given : Searchable leads rows n s root status₀ cells₀ total head) (here : head < total)
-  (placed : place ≡ place_at root cells₀ head) where
+    (placed : place ≡ place_at root cells₀ head) where
   abbrev x : ℕ
   x = place % 1048576
 
@@ -154,8 +154,11 @@ overflow_mul-cells-in-loop-a c = omega (arith, head-few c.requires.0 c.requires.
 
 pub overflow_add-cells-in-loop-a : goal.overflow_add-cells-in-loop-a
 overflow_add-cells-in-loop-a c =
-    omega (arith, few c.requires.0 c.requires.1 c.place_of-place.ensures c.loop-a.invariant c.loop-a-test.true c.wide16.ensures c.wide16-in-loop-a.ensures,
-    head-few c.requires.0 c.requires.1 c.place_of-place.ensures c.loop-a.invariant c.loop-a-test.true)
+    omega (
+      arith,
+      few c.requires.0 c.requires.1 c.place_of-place.ensures c.loop-a.invariant c.loop-a-test.true c.wide16.ensures c.wide16-in-loop-a.ensures,
+      head-few c.requires.0 c.requires.1 c.place_of-place.ensures c.loop-a.invariant c.loop-a-test.true,
+    )
 
 pub overflow_sub-cells : goal.overflow_sub-cells
 overflow_sub-cells c = (tail-cell c.requires.0 c.requires.1 c.place_of-place.ensures c.loop-a.invariant c.loop-a-test.true).0

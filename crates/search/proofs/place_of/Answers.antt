@@ -1,7 +1,6 @@
 -- `search::place_of` meets its contract. Assumes nothing.
 use borrow.Author.Tests.{eq-eqb, ne_eqb}
 use Rattle.search.specs.Queue.{place_at}
-use borrow.Author.Rules.{rules}
 use Rattle.search.proofs.place_of.Goals as goal
 
 pub returns-then-code-eq0 : goal.returns-then-code-eq0

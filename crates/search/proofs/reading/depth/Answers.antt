@@ -1,7 +1,6 @@
 -- `search::reading::depth` meets its contract. Assumes nothing.
-use Prim.Native.Nat.{◌-◌}
 use native.Mathlib.Omega.{arith}
-use Rattle.search.proofs.ReadBack.{Counting, counting-start, counting_more, counting-less, counting-end}
+use Rattle.search.proofs.ReadBack.{counting-start, counting_more, counting-less, counting-end}
 use Rattle.search.proofs.reading.depth.Goals as goal
 
 pub loop-c-init : goal.loop-c-init

@@ -1,9 +1,8 @@
 -- `search::reading::fill` meets its contract. Assumes nothing.
-use mathlib.Core.Path.{◌≡◌, refl}
-use Prim.Native.Nat.{◌-◌}
+use mathlib.Core.Path.{refl}
 use native.Mathlib.Omega.{arith}
-use lib.ListN.{length, length-set}
-use Rattle.search.proofs.ReadBack.{Filling, filling-start, filling-at, filling-more, filling-end}
+use lib.ListN.{length-set}
+use Rattle.search.proofs.ReadBack.{filling-start, filling-at, filling-more, filling-end}
 use Rattle.search.proofs.reading.fill.Goals as goal
 
 pub loop-at-init : goal.loop-at-init

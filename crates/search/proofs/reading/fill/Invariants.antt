@@ -1,9 +1,7 @@
 -- The loops of `search::reading::fill`.
-use mathlib.Core.Path.{◌≡◌, refl}
-use Prim.Native.Nat.{◌-◌}
-use native.Mathlib.Omega.{arith}
-use lib.ListN.{length, length-set}
-use Rattle.search.proofs.ReadBack.{Filling, filling-start, filling-at, filling-more, filling-end}
+use mathlib.Core.Path.{◌≡◌}
+use lib.ListN.{length}
+use Rattle.search.proofs.ReadBack.{Filling}
 use Rattle.search.proofs.reading.fill.Given as goal
 
 abbrev pub invariant-loop-at : goal.invariant-loop-at
