@@ -1,5 +1,5 @@
--- Refusal 25: a file of more than 65,536 bytes. Assumes nothing.
-use Rattle.std.specs.Prelude.{ℕ, ltb}
+-- Refusal 25: a file of more than 65,536 bytes. How much of a slice is filled. Assumes nothing.
+use Rattle.std.specs.Prelude.{◌≡◌, List, ℕ, ◌≤◌, length, take, ltb}
 use Rattle.slices.specs.declared.Part.{Part}
 use Rattle.slices.specs.declared.Part.TheVariants.{First, Second}
 use Rattle.slices.specs.Refusals.{Fault, sound, fault, ◌then◌, when, Result, refused}
@@ -23,3 +23,7 @@ after (fault r) x = refused r
 abbrev pub says_of : Length → Fault
 says_of Good = sound
 says_of (Refused r) = fault r
+
+-- So many bytes of a slice are its first, none beyond its end.
+abbrev pub IsPrefixLen : ℕ → List ℕ → Type 0
+IsPrefixLen n xs = (n ≤ length xs) × (n ≡ length (take n xs))

@@ -6,18 +6,23 @@ ghost use Rattle.console.specs.Files.{length_fault, lengths_fault, says_of};
 
 use slices::{Part, Refusal, refuse};
 
+mod failing; // failing.rt: what failed, on standard error
 mod files; // files.rt: a file's bytes in a lent slice
 mod printing; // printing.rt: words, numbers and refusals on standard output
 mod options; // options.rt: what the arguments ask for
 
-pub use files::load;
-pub use options::{arguments, name_at};
+pub use failing::{fail, fail_long};
+pub use files::{load, path_of};
+pub use options::{arg_count, arguments, is_end, name_at, target_at};
 pub use printing::{print, print_refusal, refusal_text, say};
 
 // The longest file that a program takes. One byte more is read, to tell that a file is longer.
 const LONGEST: usize = 65536;
 
 pub const ROOM: usize = LONGEST + 1;
+
+// Room for a name.
+pub const NAME: usize = 4096;
 
 // What an argument is: a name, the end of the options, `--explain`, or another option.
 #[derive(Clone, Copy)]

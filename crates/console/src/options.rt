@@ -1,32 +1,65 @@
 // What a program is asked for by its arguments: options, and the names of files.
-ghost use Rattle.io.specs.Counts.{IsPrefixLen};
+ghost use Rattle.std.specs.Prelude.{IfSome};
+ghost use Rattle.console.specs.Files.{IsPrefixLen};
 
-use crate::{Asked, Word};
-use check::same;
+use crate::failing::fail_long;
+use crate::{Asked, NAME, Word};
+use std::env::{Env, FillError};
+
+// How many arguments the program was started with, its own name among them.
+pub fn arg_count(rt: &HostRuntime) -> usize {
+    let mut first = [0u8; 1];
+    for i in 0..usize::MAX {
+        match rt.arg(i, &mut first) {
+            Err(FillError::NotPresent) => return i,
+            _ => {}
+        }
+    }
+    usize::MAX
+}
+
+// An argument, and its length: nothing where it is missing or too long.
+fn read(rt: &HostRuntime, i: usize, word: &mut [u8]) -> usize
+    ensures { IsPrefixLen result word.new }
+{
+    match rt.arg(i, word) {
+        Ok(n) => n,
+        Err(_) => 0,
+    }
+}
+
+// Whether an argument is `--`.
+pub fn is_end(rt: &HostRuntime, i: usize) -> bool {
+    let mut word = [0u8; NAME];
+    let n = read(rt, i, &mut word);
+    n == 2 && word[0] == b'-' && word[1] == b'-'
+}
 
 // What an argument is. An option has a `-` and more, and stands before `--`. One that is too long to be read is a name.
-fn word_at(i: usize, ended: bool) -> Word {
-    let mut buffer = io::buffer();
-    let n = os::arg(i, &mut buffer);
+fn word_at(rt: &HostRuntime, i: usize, ended: bool) -> Word {
+    let mut buffer = [0u8; NAME];
+    let n = read(rt, i, &mut buffer);
     if ended || n < 2 {
         return Word::Name;
     }
     if buffer[0] != b'-' {
         return Word::Name;
     }
+    let end: &[u8] = b"--";
+    let explain: &[u8] = b"--explain";
     let word = &buffer[..n];
-    if same(word, b"--") {
+    if word == end {
         return Word::End;
     }
-    if same(word, b"--explain") {
+    if word == explain {
         return Word::Explain;
     }
     Word::Other
 }
 
 // What the arguments ask for. Any option that is not known, `-h` and `--help` among them, asks for the usage.
-pub fn arguments() -> Asked {
-    let count = os::arg_count();
+pub fn arguments(rt: &HostRuntime) -> Asked {
+    let count = arg_count(rt);
     let mut usage = false;
     let mut explain = false;
     let mut ended = false;
@@ -35,7 +68,7 @@ pub fn arguments() -> Asked {
     let mut second = 0;
     let mut i = 1;
     while i < count {
-        let word = word_at(i, ended);
+        let word = word_at(rt, i, ended);
         match word {
             Word::Name => {
                 names += 1;
@@ -58,12 +91,26 @@ pub fn arguments() -> Asked {
 }
 
 // The name at a place of the arguments. Of one that is too long as much as there is room for, which no file has.
-pub fn name_at(i: usize, name: &mut [u8]) -> usize
+#[tactic(auto, using(crate::proofs::Counted::prefix_len_of_le))]
+pub fn name_at(rt: &HostRuntime, i: usize, name: &mut [u8]) -> usize
     ensures { IsPrefixLen result name.new }
 {
-    let n = os::arg(i, name);
-    if os::errno() == libc::ENAMETOOLONG {
-        return name.len();
+    match rt.arg(i, name) {
+        Ok(n) => n,
+        Err(FillError::TooLong) => name.len(),
+        Err(FillError::NotPresent) => 0,
     }
-    n
+}
+
+// The whole name at a place of the arguments: none where it is too long, which is said by what the name is called.
+pub fn target_at(rt: &HostRuntime, i: usize, what: &[u8], name: &mut [u8]) -> Option<usize>
+    ensures { IfSome result (λ n. IsPrefixLen n name.new) }
+{
+    match rt.arg(i, name) {
+        Ok(n) => Some(n),
+        Err(_) => {
+            fail_long(rt, what);
+            None
+        }
+    }
 }

@@ -3,6 +3,7 @@ ghost use Rattle.std.specs.Prelude.{◌≤◌, length};
 ghost use Rattle.numbers.specs.Digits.{field};
 ghost use Rattle.console.specs.Printed.{part_field, refusal_text_of, Shows};
 
+use crate::failing::fail;
 use numbers::put_field;
 use slices::{Part, Refusal, copy, wide};
 
@@ -10,15 +11,16 @@ use slices::{Part, Refusal, copy, wide};
 const REFUSAL: usize = 80;
 
 // Writes all of a text to standard output. A write that fails is said on standard error.
-pub fn print(text: &[u8]) {
-    if !io::write_all(libc::STDOUT_FILENO, text) {
-        os::fail(b"standard output");
+pub fn print(rt: &HostRuntime, text: &[u8]) {
+    match Print::write_all(rt, text) {
+        Ok(()) => {}
+        Err(error) => fail(rt, b"standard output", error),
     }
 }
 
 // Writes all of a text to standard error.
-pub fn say(text: &[u8]) {
-    io::write_all(libc::STDERR_FILENO, text);
+pub fn say(rt: &HostRuntime, text: &[u8]) {
+    let _ = Print::write_all(&rt.stderr(), text);
 }
 
 // A text at the start of a slice, and its length.
@@ -68,8 +70,8 @@ pub fn refusal_text(r: Refusal, out: &mut [u8]) -> usize
     at
 }
 
-pub fn print_refusal(r: Refusal) {
+pub fn print_refusal(rt: &HostRuntime, r: Refusal) {
     let mut text = [0u8; REFUSAL];
     let n = refusal_text(r, &mut text);
-    print(&text[..n]);
+    print(rt, &text[..n]);
 }
