@@ -1,6 +1,6 @@
 -- The sheet's refusal, of part first, before an unknown letter.
 use mathlib.Core.Path.{◌≡◌, refl}
-use mathlib.Core.List.{List, [], ◌∷◌}
+use mathlib.Core.List.{[], ◌∷◌}
 use Rattle.slices.specs.declared.Part.TheVariants.{First}
 use Rattle.slices.specs.Refusals.{refused}
 use Rattle.packed.specs.Faults.{header_fault, tables_fault, sheet_fault}

@@ -7,7 +7,7 @@ use native.Mathlib.Omega.{arith}
 use lib.ListN.{length}
 use Rattle.slices.specs.declared.Part.TheVariants.{First}
 use Rattle.slices.specs.Capped.{capped}
-use Rattle.slices.specs.Refusals.{Fault, sound, fault, Result, given, refused, unless}
+use Rattle.slices.specs.Refusals.{Fault, sound, fault, Result, given, unless}
 use Rattle.slices.proofs.Capped.{capped_is}
 use Rattle.slices.proofs.Refusals.{gives, given-was, was-given}
 use Rattle.fdfa.specs.Words.{Over}

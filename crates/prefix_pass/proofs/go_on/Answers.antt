@@ -9,13 +9,12 @@ use Rattle.slices.proofs.Refusals.{refuses, gives, was-given, was-refused}
 use Rattle.fdfa.specs.Pass.{Pass, pass_over}
 use Rattle.packed.specs.declared.Sizes.{Sizes}
 use Rattle.packed.specs.Layout.{letter_count, state_count, decode, Valid}
-use Rattle.packed.specs.Faults.{sheet_fault, sizes_of, says_of}
+use Rattle.packed.specs.Faults.{sheet_fault, sizes_of}
 use Rattle.packed.proofs.Soundness.{sound-valid}
 use Rattle.prefix_pass.specs.Parts.{pass_says, held_in_value, told}
 use Rattle.prefix_pass.specs.Steps.{Within}
 use Rattle.prefix_pass.proofs.Telling.{within_held, within_more}
 use Rattle.prefix_pass.proofs.Leading.{columns-fit, stepping, leading-pass}
-use borrow.Author.Rules.{rules}
 use Rattle.prefix_pass.proofs.go_on.Goals as goal
 
 -- the sheet is good, and its sizes are known
@@ -39,16 +38,16 @@ pub columns-table-requires : goal.columns-table-requires
 columns-table-requires c = columns-fit _ (valid c.args.sheet.now c.in-Valid.ensures) (sized c.args.sheet.now c.in-Valid.ensures).1
 
 pub pass_on-requires : goal.pass_on-requires
-pass_on-requires c = 
+pass_on-requires c =
     (stepping _ (valid c.args.sheet.now c.in-Valid.ensures) (sized c.args.sheet.now c.in-Valid.ensures).1 c.columns-table.ensures, within_more (valid c.args.sheet.now c.in-Valid.ensures).header.few_states (pass_says c.held_in.result) (within c.args.sheet.now (pass_says c.args.held) c.in-Valid.ensures c.held_in.ensures))
 
 pub returns-in-Refused : goal.returns-in-Refused
-returns-in-Refused c = 
+returns-in-Refused c =
     let b = c.args.sheet.now in
     refuses _ (was-refused (sheet_fault First b) (sizes_of b) c.in-Refused.ensures)
 
 pub returns-in-Valid : goal.returns-in-Valid
-returns-in-Valid c = 
+returns-in-Valid c =
     let b = c.args.sheet.now in
     let w = c.args.part.now in
     ap given

@@ -1,8 +1,7 @@
 -- `prefix_pass::pass` meets its contract: after i letters it holds what the pass over them does. Assumes nothing.
 use mathlib.Core.Path.{◌≡◌, ap, sym, ◌∙◌}
-use Prim.Native.Nat.{ℕ, ◌+◌, ◌-◌, ◌≤◌, ◌<◌}
+use Prim.Native.Nat.{ℕ, ◌+◌, ◌<◌}
 use native.Mathlib.Omega.{arith}
-use lib.ListN.{length, take}
 use lib.Seq.{take_all}
 use Rattle.fdfa.specs.Pass.{reached, unknown, pass_over}
 use Rattle.fdfa.proofs.Pass.{pass-further, pass-ends}
@@ -18,7 +17,7 @@ pub loop-i-init : goal.loop-i-init
 loop-i-init c = (search rules, c.requires.1, ap (reached c.args.state) (omega arith))
 
 pub returns-then-letters-letter : goal.returns-then-letters-letter
-returns-then-letters-letter c = 
+returns-then-letters-letter c =
     let s = c.args in
     ap unknown c.sum.ensures
     ∙ sym
@@ -26,12 +25,12 @@ returns-then-letters-letter c =
     (pass-ends s.letters (column_step s.table.now) (reached s.state s.at) s.part.now c.loop-i.invariant.2 c.loop-i-test.true c.wide-letter.ensures c.if-letters-letter.true))
 
 pub step-q-requires : goal.step-q-requires
-step-q-requires c = 
+step-q-requires c =
     let p = c.requires.0 in
     omega (arith, c.if-letters-letter.false, c.loop-i.invariant.1, p.few_letters, p.long)
 
 pub loop-i-preserved : goal.loop-i-preserved
-loop-i-preserved c = 
+loop-i-preserved c =
     let s = c.args in
     let known : c.wide-letter.result < s.letters = omega (arith, c.if-letters-letter.false) in (
       search rules,
@@ -41,7 +40,7 @@ loop-i-preserved c =
     )
 
 pub returns : goal.returns
-returns c = 
+returns c =
     let s = c.args in
     ap (reached c.loop-i.q) c.sum-2.ensures
     ∙ sym

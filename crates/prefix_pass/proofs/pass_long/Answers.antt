@@ -11,7 +11,6 @@ use Rattle.fdfa.proofs.Pass.{pass-append}
 use Rattle.packed.specs.Columns.{column_step}
 use Rattle.prefix_pass.specs.Parts.{told}
 use Rattle.prefix_pass.proofs.Telling.{told-on}
-use borrow.Author.Rules.{rules}
 use Rattle.prefix_pass.proofs.pass_long.Goals as goal
 
 -- from where the pairs end, the pass over the rest is the pass over the whole
@@ -32,6 +31,6 @@ pub pass-requires : goal.pass-requires
 pass-requires c = (c.requires.0, c.pass_pairs-r.ensures.below)
 
 pub returns : goal.returns
-returns c = 
+returns c =
     c.pass.ensures
     ∙ whole c.args.letters (column_step c.args.table.now) (reached c.args.state c.args.at) c.args.part.now c.pass_pairs-r.result.passed (c.pass_pairs-r.ensures.goes c.args.at) c.sum.ensures

@@ -1,7 +1,7 @@
 -- `prefix_pass::pass_on` meets its contract: a pass that has failed stays so. Assumes nothing.
 use mathlib.Core.Path.{◌≡◌, ap, sym, subst, ◌∙◌}
 use mathlib.Core.List.{List}
-use Prim.Native.Nat.{ℕ, ◌≤◌, ◌<◌}
+use Prim.Native.Nat.{ℕ, ◌≤◌}
 use native.Mathlib.Omega.{arith}
 use Rattle.slices.proofs.Capped.{capped_is}
 use Rattle.fdfa.specs.Pass.{Pass, unknown, pass_over}
@@ -10,7 +10,6 @@ use Rattle.packed.specs.Columns.{column_step}
 use Rattle.prefix_pass.specs.declared.Held.{Held}
 use Rattle.prefix_pass.specs.Parts.{pass_says, told}
 use Rattle.prefix_pass.specs.Steps.{Within}
-use borrow.Author.Rules.{rules}
 use Rattle.prefix_pass.proofs.pass_on.Goals as goal
 
 -- the state that is held
@@ -37,7 +36,7 @@ pub returns-then-part-letters : goal.returns-then-part-letters
 returns-then-part-letters c = says c.args.letters c.args.table.now c.args.part.now c.in-Reached.is c.pass.ensures
 
 pub returns-in-Unknown : goal.returns-in-Unknown
-returns-in-Unknown c = 
+returns-in-Unknown c =
     says c.args.letters c.args.table.now c.args.part.now c.in-Unknown.is
     (sym (stays c.args.letters c.args.table.now c.in-Unknown.at c.args.part.now (omega arith)))
 

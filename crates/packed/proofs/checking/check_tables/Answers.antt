@@ -34,7 +34,7 @@ pub progress_at-requires : goal.progress_at-requires
 progress_at-requires c = (c.requires.0, omega (arith, states c.args.sheet.now c.requires.1))
 
 pub returns-then-len-progress_at : goal.returns-then-len-progress_at
-returns-then-len-progress_at c = c.refusal.ensures ∙ refuses _ (bad-length _ _ (λ e. c.if-len-progress_at.true (e ∙ sym (due c.args.sheet.now c.requires.1 c.progress_at.ensures))))
+returns-then-len-progress_at c = c.refusal.ensures ∙ refuses _ (bad-length _ _ (λ e. omega (arith, e, c.if-len-progress_at.true, due c.args.sheet.now c.requires.1 c.progress_at.ensures)))
 
 pub overflow_add-from : goal.overflow_add-from
 overflow_add-from c = omega (arith, few c.args.sheet.now c.requires.0 c.requires.1)
@@ -43,21 +43,21 @@ pub overflow_mul-entries : goal.overflow_mul-entries
 overflow_mul-entries c = omega (arith, few c.args.sheet.now c.requires.0 c.requires.1)
 
 pub first_outside-i-requires : goal.first_outside-i-requires
-first_outside-i-requires c = (within c.args.sheet.now c.requires.0 c.requires.1 (c.if-len-progress_at.false ∙ due c.args.sheet.now c.requires.1 c.progress_at.ensures)).0
+first_outside-i-requires c = (within c.args.sheet.now c.requires.0 c.requires.1 (omega (arith, c.if-len-progress_at.false, due c.args.sheet.now c.requires.1 c.progress_at.ensures))).0
 
 pub overflow_add-from-then-i-entries : goal.overflow_add-from-then-i-entries
-overflow_add-from-then-i-entries c = omega (arith, within c.args.sheet.now c.requires.0 c.requires.1 (c.if-len-progress_at.false ∙ due c.args.sheet.now c.requires.1 c.progress_at.ensures), c.if-i-entries.true)
+overflow_add-from-then-i-entries c = omega (arith, within c.args.sheet.now c.requires.0 c.requires.1 (omega (arith, c.if-len-progress_at.false, due c.args.sheet.now c.requires.1 c.progress_at.ensures)), c.if-i-entries.true)
 
 pub returns-then-i-entries : goal.returns-then-i-entries
 returns-then-i-entries c =
     c.refusal-then-i-entries.ensures
-    ∙ refuses _ (bad-leading _ _ (c.if-len-progress_at.false ∙ due c.args.sheet.now c.requires.1 c.progress_at.ensures) (states c.args.sheet.now c.requires.1) (letters c.args.sheet.now c.requires.1) c.first_outside-i.ensures c.if-i-entries.true)
+    ∙ refuses _ (bad-leading _ _ (omega (arith, c.if-len-progress_at.false, due c.args.sheet.now c.requires.1 c.progress_at.ensures)) (states c.args.sheet.now c.requires.1) (letters c.args.sheet.now c.requires.1) c.first_outside-i.ensures c.if-i-entries.true)
 
 pub check_progress-requires : goal.check_progress-requires
 check_progress-requires c =
-    (c.requires.0, (c.if-len-progress_at.false ∙ due c.args.sheet.now c.requires.1 c.progress_at.ensures), c.requires.1)
+    (c.requires.0, (omega (arith, c.if-len-progress_at.false, due c.args.sheet.now c.requires.1 c.progress_at.ensures)), c.requires.1)
 
 pub returns : goal.returns
 returns c =
     c.check_progress.ensures
-    ∙ ap (λ (f : Fault). unless f c.args.z) (sym (good-leading _ _ (c.if-len-progress_at.false ∙ due c.args.sheet.now c.requires.1 c.progress_at.ensures) (states c.args.sheet.now c.requires.1) (letters c.args.sheet.now c.requires.1) c.first_outside-i.ensures c.if-i-entries.false))
+    ∙ ap (λ (f : Fault). unless f c.args.z) (sym (good-leading _ _ (omega (arith, c.if-len-progress_at.false, due c.args.sheet.now c.requires.1 c.progress_at.ensures)) (states c.args.sheet.now c.requires.1) (letters c.args.sheet.now c.requires.1) c.first_outside-i.ensures c.if-i-entries.false))

@@ -30,7 +30,7 @@ pub narrow-requires : goal.narrow-requires
 narrow-requires c = omega (arith, c.step.ensures, c.requires.0.closed c.step-q.result _ (between c.requires.0 c.requires.1 c.step-q.ensures) c.if-b-letters.true)
 
 pub returns-then-b-letters : goal.returns-then-b-letters
-returns-then-b-letters c = 
+returns-then-b-letters c =
     let t = c.args.table.now in
     let b = c.args.i / 32 % 32 in
     c.narrow.ensures

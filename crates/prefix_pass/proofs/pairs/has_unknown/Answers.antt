@@ -1,7 +1,6 @@
 -- `prefix_pass::pairs::has_unknown` meets its contract. Assumes nothing.
 use native.Mathlib.Omega.{arith}
 use borrow.Author.Tests.{leb-false}
-use borrow.Author.Rules.{rules}
 use Rattle.prefix_pass.proofs.pairs.has_unknown.Goals as goal
 
 pub returns-then-letters-a : goal.returns-then-letters-a

@@ -1,10 +1,8 @@
 -- `prefix_pass::pairs::pairs` meets its contract: cell after cell. Assumes nothing.
-use Prim.Native.Nat.{◌*◌, ◌-◌}
 use native.Mathlib.Omega.{arith}
 use lib.ListN.{length-replicate}
-use Rattle.slices.proofs.Filling.{Filling, filling-none, filling-more, filling-all}
-use Rattle.prefix_pass.specs.Doubled.{pair_cell, pairs_of}
-use borrow.Author.Rules.{rules}
+use Rattle.slices.proofs.Filling.{filling-none, filling-more, filling-all}
+use Rattle.prefix_pass.specs.Doubled.{pairs_of}
 use Rattle.prefix_pass.proofs.pairs.pairs.Goals as goal
 
 pub loop-i-init : goal.loop-i-init

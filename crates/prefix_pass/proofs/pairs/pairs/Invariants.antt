@@ -1,10 +1,7 @@
 -- The loops of `prefix_pass::pairs::pairs`.
 use Prim.Native.Nat.{◌*◌, ◌-◌}
-use native.Mathlib.Omega.{arith}
-use lib.ListN.{length-replicate}
-use Rattle.slices.proofs.Filling.{Filling, filling-none, filling-more, filling-all}
-use Rattle.prefix_pass.specs.Doubled.{pair_cell, pairs_of}
-use borrow.Author.Rules.{rules}
+use Rattle.slices.proofs.Filling.{Filling}
+use Rattle.prefix_pass.specs.Doubled.{pair_cell}
 use Rattle.prefix_pass.proofs.pairs.pairs.Given as goal
 
 abbrev pub invariant-loop-i : goal.invariant-loop-i

@@ -1,10 +1,10 @@
 -- `prefix_pass::pairs::pass_pairs` meets its contract: after i letters it stands where the pass over them does. Assumes nothing.
 use mathlib.Core.Path.{◌≡◌, ap, sym, ◌∙◌}
 use mathlib.Core.List.{List}
-use Prim.Native.Nat.{ℕ, ◌+◌, ◌*◌, ◌-◌, ◌≤◌, ◌<◌}
+use Prim.Native.Nat.{ℕ, ◌+◌, ◌*◌}
 use native.Mathlib.Omega.{arith}
-use lib.ListN.{length, get_or, take}
-use Rattle.fdfa.specs.Pass.{reached, pass_over}
+use lib.ListN.{length, get_or}
+use Rattle.fdfa.specs.Pass.{reached}
 use Rattle.packed.specs.Columns.{column_step}
 use Rattle.prefix_pass.proofs.Doubled.{length_pairs, pair_step_lem, pass-two}
 use borrow.Author.Rules.{rules}
@@ -14,7 +14,7 @@ pub pairs-two-requires : goal.pairs-two-requires
 pairs-two-requires c = c.requires.0
 
 pub loop-i-init : goal.loop-i-init
-loop-i-init c = 
+loop-i-init c =
     (search rules, c.requires.1, λ n. ap (reached c.args.state) (none n))
   where
     none : (n : ℕ) → n ≡ n + 0
@@ -39,17 +39,14 @@ pub overflow_add-a : goal.overflow_add-a
 overflow_add-a c = omega (arith, (c.has_unknown.ensures c.if-has_unknown.false).0, (c.has_unknown.ensures c.if-has_unknown.false).1, c.requires.0.few_letters)
 
 pub step_from-q-requires : goal.step_from-q-requires
-step_from-q-requires c = 
-    
+step_from-q-requires c =
     omega (arith, (c.has_unknown.ensures c.if-has_unknown.false).0, (c.has_unknown.ensures c.if-has_unknown.false).1, c.requires.0.few_letters, c.loop-i.invariant.1, (ap length c.pairs-two.ensures ∙ length_pairs _ _ c.requires.0.few_letters))
 
 pub overflow_add-i-in-loop-i-2 : goal.overflow_add-i-in-loop-i-2
-overflow_add-i-in-loop-i-2 c =  omega (arith, c.loop-i.invariant.0, c.well_formed)
+overflow_add-i-in-loop-i-2 c = omega (arith, c.loop-i.invariant.0, c.well_formed)
 
 pub loop-i-preserved : goal.loop-i-preserved
-loop-i-preserved c = 
-    
-    
+loop-i-preserved c =
     let f = column_step c.args.table.now in
     let leads : c.step_from-q.result ≡ f (f c.loop-i.q c.wide-a.result) c.wide-b.result =
     c.step_from-q.ensures
