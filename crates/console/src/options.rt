@@ -2,9 +2,13 @@
 ghost use Rattle.std.specs.Prelude.{IfSome};
 ghost use Rattle.console.specs.Files.{IsPrefixLen};
 
-use crate::failing::fail_long;
+use crate::failing::{fail, fail_long};
 use crate::{Asked, NAME, Word};
 use std::env::{Env, FillError};
+use std::io::Error;
+
+// The system's number of an argument that is missing.
+const EINVAL: i32 = 22;
 
 // How many arguments the program was started with, its own name among them.
 pub fn arg_count(rt: &HostRuntime) -> usize {
@@ -102,14 +106,19 @@ pub fn name_at(rt: &HostRuntime, i: usize, name: &mut [u8]) -> usize
     }
 }
 
-// The whole name at a place of the arguments: none where it is too long, which is said by what the name is called.
+// The whole name at a place of the arguments: none where it is too long or missing, which is said by what the name is
+// called.
 pub fn target_at(rt: &HostRuntime, i: usize, what: &[u8], name: &mut [u8]) -> Option<usize>
     ensures { IfSome result (λ n. IsPrefixLen n name.new) }
 {
     match rt.arg(i, name) {
         Ok(n) => Some(n),
-        Err(_) => {
+        Err(FillError::TooLong) => {
             fail_long(rt, what);
+            None
+        }
+        Err(FillError::NotPresent) => {
+            fail(rt, what, Error::from_raw_os_error(EINVAL));
             None
         }
     }
