@@ -116,27 +116,11 @@ fn check_tables(sheet: &[u8], part: Part, z: Sizes) -> Validity
     check_progress(sheet, part, z)
 }
 
-// A second copy of a part.
-fn again(part: &Part) -> Part
-    ensures { result ≡ part.now }
-{
-    match part {
-        Part::First => Part::First,
-        Part::Second => Part::Second,
-        Part::Opening => Part::Opening,
-        Part::Loop => Part::Loop,
-        Part::Out => Part::Out,
-        Part::Work => Part::Work,
-        Part::Cursor => Part::Cursor,
-        Part::Seconds => Part::Seconds,
-    }
-}
-
 // Whether the bytes are a packed sheet: its sizes, or the one refusal, which names `part`.
 pub fn check(sheet: &[u8], part: Part) -> Validity
     ensures { says_of result ≡ checked part sheet.now }
 {
-    let header = check_header(sheet, again(&part));
+    let header = check_header(sheet, part);
     match header {
         Validity::Refused(r) => Validity::Refused(r),
         Validity::Valid(z) => check_tables(sheet, part, z),

@@ -1,6 +1,5 @@
 -- `packed::checking::check` meets its contract: the counts, then the tables. Assumes nothing.
 use mathlib.Core.Path.{ap, sym, ◌∙◌}
-use Rattle.slices.specs.declared.Part.{Part}
 use Rattle.slices.specs.Refusals.{Fault, unless}
 use Rattle.slices.proofs.Refusals.{passed, failed, refuses, was-given, was-refused}
 use Rattle.packed.specs.Faults.{header_fault, tables_fault, sheet_fault, sizes_of}
@@ -15,7 +14,7 @@ unfolding sheet_fault
 returns-in-Refused c =
     let b = c.args.sheet.now in
     refuses (sizes_of b)
-    (failed (tables_fault c.args.part b) (ap (λ (p : Part). header_fault p b) (sym c.again.ensures) ∙ was-refused (header_fault c.again.result b) (sizes_of b) c.in-Refused.ensures))
+    (failed (tables_fault c.args.part b) (was-refused (header_fault c.args.part b) (sizes_of b) c.in-Refused.ensures))
 
 pub returns-in-Valid : goal.returns-in-Valid
 unfolding sheet_fault
@@ -23,5 +22,4 @@ returns-in-Valid c =
     let b = c.args.sheet.now in
     let z = was-given _ _ c.in-Valid.ensures in
     let f = tables_fault c.args.part b in
-    let e = ap (λ (p : Part). header_fault p b) (sym c.again.ensures) ∙ z.0 in
-    c.check_tables.ensures ∙ (ap (unless f) z.1 ∙ ap (λ (g : Fault). unless g (sizes_of b)) (sym (passed f e)))
+    c.check_tables.ensures ∙ (ap (unless f) z.1 ∙ ap (λ (g : Fault). unless g (sizes_of b)) (sym (passed f z.0)))
