@@ -6,7 +6,7 @@ use Prim.Native.Nat.{ℕ}
 use lib.Dec.{ltb}
 use lib.ListN.{length}
 use Rattle.slices.specs.declared.Part.TheVariants.{Out}
-use Rattle.slices.specs.Refusals.{sound, when, refused, fault_in}
+use Rattle.slices.specs.Refusals.{sound, when, fault_in}
 use Rattle.slices.proofs.Refusals.{passed, then-left, given-was, sound-given}
 use Rattle.fdfa.specs.Buchi.{Dba, SameDba, from_buchi}
 use Rattle.fdfa.proofs.BuchiPairs.{same_back, same_then}

@@ -15,7 +15,7 @@ use Rattle.format.proofs.Inverse.{stands-other, stands-past, Read, reading-was, 
 use Rattle.format.proofs.Fixed.{fixed-literal}
 use Rattle.format.proofs.Chained.{chained-begins, chained-is, chained-was}
 use Rattle.buchi_import.specs.Text.{start_line}
-use Rattle.buchi_import.specs.Reading.{Numbers, of_start, transition, transitions, after_last, accepting_state, accepting_states, move_count, letters_in, ended, whole, moved, started, numbers_below}
+use Rattle.buchi_import.specs.Reading.{Numbers, of_start, transition, transitions, after_last, accepting_state, accepting_states, move_count, letters_in, ended, moved, started, numbers_below}
 use Rattle.buchi_import.proofs.Transitions.{shape, moves-begin}
 use Rattle.buchi_import.proofs.Accepting.{rising-was, accepting-begin}
 use Rattle.buchi_import.proofs.Onward.{ended-all, moved_on, moved-was, moved-whole}
