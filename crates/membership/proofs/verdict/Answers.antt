@@ -1,0 +1,29 @@
+-- `membership::verdict` meets its contract: the sheet, then the lasso. Assumes nothing.
+use mathlib.Core.Path.{◌≡◌, ap, sym, ◌∙◌}
+use mathlib.Core.List.{List}
+use Prim.Native.Nat.{ℕ}
+use Rattle.slices.specs.declared.Part.TheVariants.{First}
+use Rattle.slices.specs.Refusals.{Fault, sound, unless}
+use Rattle.slices.proofs.Refusals.{passed, failed, refuses, was-given, was-refused}
+use Rattle.fdfa.specs.Acceptance.{verdict}
+use Rattle.packed.specs.Layout.{decode}
+use Rattle.packed.specs.Faults.{sheet_fault, sizes_of, says_of}
+use Rattle.packed.proofs.Soundness.{sound-valid}
+use Rattle.membership.specs.Verdict.{lasso_fault}
+use borrow.Author.Rules.{rules}
+use Rattle.membership.proofs.verdict.Goals as goal
+
+pub judge-requires : goal.judge-requires
+judge-requires c = let z = was-given _ _ c.in-Valid.ensures in (sound-valid First _ z.0, z.1)
+
+pub returns-in-Refused : goal.returns-in-Refused
+unfolding lasso_fault
+returns-in-Refused c =
+    let b = c.args.sheet.now in
+    refuses _ (failed _ (was-refused (sheet_fault First b) (sizes_of b) c.in-Refused.ensures))
+
+pub returns-in-Valid : goal.returns-in-Valid
+unfolding lasso_fault
+returns-in-Valid c =
+    let z = was-given (sheet_fault First c.args.sheet.now) (sizes_of c.args.sheet.now) c.in-Valid.ensures in
+    c.judge.ensures ∙ ap (λ (f : Fault). unless f (verdict (decode c.args.sheet.now) c.args.prefix.now c.args.period.now)) (sym (passed _ z.0))
