@@ -1,0 +1,32 @@
+-- `blocks::reading::read_counts` meets its contract. Assumes nothing.
+use mathlib.Core.Path.{refl, ap, sym, ◌∙◌}
+use mathlib.Core.List.{List}
+use Prim.Native.Nat.{ℕ}
+use native.Mathlib.Omega.{arith}
+use Rattle.slices.specs.declared.Part.TheVariants.{First}
+use Rattle.format.specs.declared.Row.{Row}
+use Rattle.format.specs.Format.{Format, reading}
+use Rattle.format.specs.Rows.{row}
+use Rattle.format.proofs.Fixed.{fixed-literal}
+use Rattle.format.proofs.Following.{reads-refused, reads_as, step-refused, step-within, step_given}
+use Rattle.blocks.specs.Text.{counts_title, counts_row_of}
+use borrow.Author.Rules.{rules}
+use Rattle.blocks.proofs.reading.read_counts.Goals as goal
+
+abbrev counts : List ℕ → Format
+counts vs = row counts_row_of
+
+pub read_row-requires : goal.read_row-requires
+read_row-requires c =
+    (step-within First c.args.text.now (fixed-literal counts_title) counts 0 c.read_literal-step.ensures (omega arith) c.in-Next.is, omega (arith, ap (λ (r : Row). r.count) c.counts_row.ensures, c.requires))
+
+pub returns-in-Refused : goal.returns-in-Refused
+returns-in-Refused c =
+    reads-refused refl (step-refused First c.args.text.now (fixed-literal counts_title) counts 0 c.read_literal-step.ensures c.in-Refused.is)
+
+pub returns-in-Next : goal.returns-in-Next
+returns-in-Next c =
+    reads_as
+    (step_given First c.args.text.now (fixed-literal counts_title) counts 0 c.read_literal-step.ensures (omega arith) c.in-Next.is
+    ∙ ap (λ (r : Row). reading First c.args.text.now (row r) c.in-Next.e) (sym c.counts_row.ensures))
+    c.read_row.ensures

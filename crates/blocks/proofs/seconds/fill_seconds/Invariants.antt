@@ -1,0 +1,14 @@
+-- The loops of `blocks::seconds::fill_seconds`.
+use mathlib.Core.Path.{refl}
+use Prim.Native.Nat.{◌+◌, ◌*◌, ◌-◌}
+use native.Mathlib.Omega.{arith}
+use lib.ListN.{get_or}
+use Rattle.slices.proofs.Filling.{Filling, filling-none, filling-more, filling-all}
+use borrow.Author.Rules.{rules}
+use Rattle.blocks.proofs.seconds.fill_seconds.Given as goal
+
+abbrev pub invariant-loop-a : goal.invariant-loop-a
+invariant-loop-a l = Filling l.m (λ i. get_or l.rows (i * 2 + 1) 0) l.initial.seconds l.seconds l.a
+
+abbrev pub decreases-loop-a : goal.decreases-loop-a
+decreases-loop-a l = l.m - l.a

@@ -1,0 +1,18 @@
+-- The loops of `blocks::writing::put_parts`.
+use mathlib.Core.Path.{◌≡◌, ap}
+use Prim.Native.Nat.{ℕ, ◌-◌, ◌≤◌}
+use native.Mathlib.Omega.{arith}
+use Rattle.slices.specs.Tables.{rows}
+use Rattle.slices.proofs.Tables.{rows-within}
+use Rattle.packed.specs.Layout.{decode}
+use Rattle.numbers.specs.Storing.{Stored}
+use Rattle.numbers.proofs.Stores.{stored-none-rows, stored_row, stored-length, stored-as}
+use Rattle.blocks.specs.Lines.{part_text}
+use borrow.Author.Rules.{rules}
+use Rattle.blocks.proofs.writing.put_parts.Given as goal
+
+abbrev pub invariant-loop-q : goal.invariant-loop-q
+invariant-loop-q l = (l.q ≤ l.n) × Stored l.initial.out l.at (rows l.q (part_text (decode l.sheet))) l.out l.p
+
+abbrev pub decreases-loop-q : goal.decreases-loop-q
+decreases-loop-q l = l.n - l.q
