@@ -4,7 +4,7 @@ ghost use Rattle.format.specs.Format.{stands, reading};
 ghost use Rattle.format.specs.Lines.{labelled, lines_at, LinesRead};
 ghost use Rattle.format.specs.Steps.{cell_says};
 
-use crate::reading::{again, read_cell, read_literal};
+use crate::reading::{read_cell, read_literal};
 use crate::{Cell, Column, Lines, Step};
 use numbers::put;
 use slices::{Part, narrow};
@@ -31,7 +31,7 @@ pub fn read_labelled(
     requires { at ≤ length text.now }
     ensures { cell_says result ≡ reading part text.now (labelled word.now (λ v. column) end) at }
 {
-    let step = read_literal(text, at, word, again(&part));
+    let step = read_literal(text, at, word, part);
     match step {
         Step::Refused(r) => Cell::Refused(r),
         Step::Next(e) => read_cell(text, e, column, end, part),
@@ -56,7 +56,7 @@ pub fn read_lines(
     let mut count = 0;
     let mut more = stands(text, first, at);
     while more {
-        let found = read_labelled(text, p, word, column, 10, again(&part));
+        let found = read_labelled(text, p, word, column, 10, part);
         match found {
             Cell::Refused(x) => {
                 return Lines::Refused(x);

@@ -10,22 +10,6 @@ use crate::{Cell, Column, Row, Step};
 use numbers::{Number, number_at};
 use slices::{Part, is_outside, narrow16, refuse};
 
-// A second copy of a part.
-pub fn again(part: &Part) -> Part
-    ensures { result ≡ part.now }
-{
-    match part {
-        Part::First => Part::First,
-        Part::Second => Part::Second,
-        Part::Opening => Part::Opening,
-        Part::Loop => Part::Loop,
-        Part::Out => Part::Out,
-        Part::Work => Part::Work,
-        Part::Cursor => Part::Cursor,
-        Part::Seconds => Part::Seconds,
-    }
-}
-
 // The byte that is due at a place.
 fn byte(text: &[u8], at: usize, c: u8, part: Part) -> Step
     ensures { step_says result ≡ placed (reading part text.now (byte c done) at) }
@@ -46,7 +30,7 @@ pub fn read_literal(text: &[u8], at: usize, due: &[u8], part: Part) -> Step
     let mut p = at;
     let mut i = 0;
     while i < due.len() {
-        let step = byte(text, p, due[i], again(&part));
+        let step = byte(text, p, due[i], part);
         match step {
             Step::Refused(r) => {
                 return Step::Refused(r);
@@ -75,7 +59,7 @@ fn closed(text: &[u8], v: usize, at: usize, end: u8, part: Part) -> Cell
 pub fn read_cell(text: &[u8], at: usize, column: Column, end: u8, part: Part) -> Cell
     ensures { cell_says result ≡ reading part text.now (cell column end) at }
 {
-    let found = number_at(text, at, again(&part));
+    let found = number_at(text, at, part);
     match found {
         Number::Refused(r) => Cell::Refused(r),
         Number::Good(v, e) => {
@@ -122,7 +106,7 @@ pub fn read_row(text: &[u8], at: usize, r: Row, values: &mut [u16], part: Part) 
     let mut p = at;
     let mut i = 0;
     while i < count {
-        let found = read_cell(text, p, column_at(r, i), separator(count, i), again(&part));
+        let found = read_cell(text, p, column_at(r, i), separator(count, i), part);
         match found {
             Cell::Refused(x) => {
                 return Step::Refused(x);
@@ -188,13 +172,7 @@ pub fn read_rows(
     let mut w = 0;
     let mut i = 0;
     while i < count {
-        let step = read_row(
-            text,
-            p,
-            numbered(r, turn, i),
-            &mut values[w..],
-            again(&part),
-        );
+        let step = read_row(text, p, numbered(r, turn, i), &mut values[w..], part);
         match step {
             Step::Refused(x) => {
                 return Step::Refused(x);

@@ -19,12 +19,12 @@ read_labelled-found-requires c = c.loop-more.invariant.1.going.inside
 pub returns-in-Refused : goal.returns-in-Refused
 returns-in-Refused c =
     let i = c.loop-more in
-    lined-refused i.invariant.1 (sym i.invariant.0 ∙ c.loop-more-test.true) (sym (rw c.again.ensures at c.read_labelled-found.ensures) ∙ ap cell_says c.in-Refused.is) refl (stored-length i.invariant.1.stored)
+    lined-refused i.invariant.1 (sym i.invariant.0 ∙ c.loop-more-test.true) (sym c.read_labelled-found.ensures ∙ ap cell_says c.in-Refused.is) refl (stored-length i.invariant.1.stored)
 
 pub narrow-requires : goal.narrow-requires
 narrow-requires c =
     let i = c.loop-more in
-    let t = line-takes i.invariant.1 (sym (rw c.again.ensures at c.read_labelled-found.ensures) ∙ ap cell_says c.in-Read.is) in
+    let t = line-takes i.invariant.1 (sym c.read_labelled-found.ensures ∙ ap cell_says c.in-Read.is) in
     omega (arith, t.high, c.requires.2)
 
 pub put-count-requires : goal.put-count-requires
@@ -34,14 +34,14 @@ put-count-requires c =
 
 pub loop-more-smaller : goal.loop-more-smaller
 loop-more-smaller c =
-    let m = lined-more c.loop-more.invariant.1 c.requires.1 (sym c.loop-more.invariant.0 ∙ c.loop-more-test.true) (sym (rw c.again.ensures at c.read_labelled-found.ensures) ∙ ap cell_says c.in-Read.is)
+    let m = lined-more c.loop-more.invariant.1 c.requires.1 (sym c.loop-more.invariant.0 ∙ c.loop-more-test.true) (sym c.read_labelled-found.ensures ∙ ap cell_says c.in-Read.is)
     (stored-as (λ k. c.narrow.ensures k ∷ []) c.put-count.ensures) in
     omega (arith, m.going.ahead, m.going.inside, c.put-count.ensures.next)
 
 pub loop-more-preserved : goal.loop-more-preserved
 loop-more-preserved c = (
   c.stands-more-in-loop-more.ensures,
-  lined-more c.loop-more.invariant.1 c.requires.1 (sym c.loop-more.invariant.0 ∙ c.loop-more-test.true) (sym (rw c.again.ensures at c.read_labelled-found.ensures) ∙ ap cell_says c.in-Read.is)
+  lined-more c.loop-more.invariant.1 c.requires.1 (sym c.loop-more.invariant.0 ∙ c.loop-more-test.true) (sym c.read_labelled-found.ensures ∙ ap cell_says c.in-Read.is)
       (stored-as (λ k. c.narrow.ensures k ∷ []) c.put-count.ensures),
 )
 

@@ -6,12 +6,12 @@ use Rattle.format.proofs.reading.read_cell.Goals as goal
 
 pub returns-then-is_outside : goal.returns-then-is_outside
 returns-then-is_outside c =
-    ap refused c.refuse.ensures ∙ sym (cell-outside c.args.part c.args.text.now c.args.column c.args.end c.args.at (sym (rw c.again.ensures at c.number_at-found.ensures) ∙ c.in-Good.is) (sym c.is_outside.ensures ∙ c.if-is_outside.true))
+    ap refused c.refuse.ensures ∙ sym (cell-outside c.args.part c.args.text.now c.args.column c.args.end c.args.at (sym c.number_at-found.ensures ∙ c.in-Good.is) (sym c.is_outside.ensures ∙ c.if-is_outside.true))
 
 pub returns-in-Refused : goal.returns-in-Refused
 returns-in-Refused c =
-    sym (cell-refused c.args.part c.args.text.now c.args.column c.args.end c.args.at (sym (rw c.again.ensures at c.number_at-found.ensures) ∙ c.in-Refused.is))
+    sym (cell-refused c.args.part c.args.text.now c.args.column c.args.end c.args.at (sym c.number_at-found.ensures ∙ c.in-Refused.is))
 
 pub returns-else-is_outside : goal.returns-else-is_outside
 returns-else-is_outside c =
-    c.closed.ensures ∙ sym (cell-inside c.args.part c.args.text.now c.args.column c.args.end c.args.at (sym (rw c.again.ensures at c.number_at-found.ensures) ∙ c.in-Good.is) (sym c.is_outside.ensures ∙ c.if-is_outside.false))
+    c.closed.ensures ∙ sym (cell-inside c.args.part c.args.text.now c.args.column c.args.end c.args.at (sym c.number_at-found.ensures ∙ c.in-Good.is) (sym c.is_outside.ensures ∙ c.if-is_outside.false))

@@ -14,12 +14,12 @@ loop-i-init c =
 pub returns-in-Refused : goal.returns-in-Refused
 returns-in-Refused c =
     let i = c.loop-i in
-    sym (literal-refused c.args.part c.args.text.now c.args.due.now c.args.at i.p i.i i.invariant.1 c.loop-i-test.true (sym (rw c.again.ensures at c.byte-step.ensures) ∙ ap step_says c.in-Refused.is))
+    sym (literal-refused c.args.part c.args.text.now c.args.due.now c.args.at i.p i.i i.invariant.1 c.loop-i-test.true (sym c.byte-step.ensures ∙ ap step_says c.in-Refused.is))
 
 pub loop-i-preserved : goal.loop-i-preserved
 loop-i-preserved c =
     let i = c.loop-i in
-    (search rules, literal-next c.args.part c.args.text.now c.args.due.now c.args.at i.p i.i i.invariant.1 (sym (rw c.again.ensures at c.byte-step.ensures) ∙ ap step_says c.in-Next.is))
+    (search rules, literal-next c.args.part c.args.text.now c.args.due.now c.args.at i.p i.i i.invariant.1 (sym c.byte-step.ensures ∙ ap step_says c.in-Next.is))
 
 pub returns : goal.returns
 returns c =

@@ -31,12 +31,12 @@ pub returns-in-Refused : goal.returns-in-Refused
 unfolding row
 returns-in-Refused c =
     let i = c.loop-i in
-    partly-refused i.invariant c.loop-i-test.true (said _ _ c.args.r i.i i.p c.column_at.ensures c.separator.ensures (rw c.again.ensures at c.read_cell-found.ensures) c.in-Refused.is) refl i.invariant.begun.same
+    partly-refused i.invariant c.loop-i-test.true (said _ _ c.args.r i.i i.p c.column_at.ensures c.separator.ensures c.read_cell-found.ensures c.in-Refused.is) refl i.invariant.begun.same
 
 pub narrow16-requires : goal.narrow16-requires
 narrow16-requires c =
     let i = c.loop-i in
-    omega (arith, small _ _ c.args.r _ _ _ _ _ _ _ _ i.invariant (said _ _ c.args.r i.i i.p c.column_at.ensures c.separator.ensures (rw c.again.ensures at c.read_cell-found.ensures) c.in-Read.is))
+    omega (arith, small _ _ c.args.r _ _ _ _ _ _ _ _ i.invariant (said _ _ c.args.r i.i i.p c.column_at.ensures c.separator.ensures c.read_cell-found.ensures c.in-Read.is))
 
 pub bounds-values-i : goal.bounds-values-i
 bounds-values-i c = omega (arith, c.loop-i-test.true, c.loop-i.invariant.begun.same, c.requires.1)
@@ -44,7 +44,7 @@ bounds-values-i c = omega (arith, c.loop-i-test.true, c.loop-i.invariant.begun.s
 pub loop-i-preserved : goal.loop-i-preserved
 loop-i-preserved c =
     let i = c.loop-i in
-    partly-cell i.invariant c.narrow16.result c.loop-i-test.true (omega (arith, c.loop-i-test.true, c.requires.1)) (said _ _ c.args.r i.i i.p c.column_at.ensures c.separator.ensures (rw c.again.ensures at c.read_cell-found.ensures) c.in-Read.is) c.narrow16.ensures
+    partly-cell i.invariant c.narrow16.result c.loop-i-test.true (omega (arith, c.loop-i-test.true, c.requires.1)) (said _ _ c.args.r i.i i.p c.column_at.ensures c.separator.ensures c.read_cell-found.ensures c.in-Read.is) c.narrow16.ensures
 
 pub returns : goal.returns
 unfolding row

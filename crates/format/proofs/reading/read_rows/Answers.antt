@@ -79,9 +79,9 @@ read_row-step-requires c =
 pub returns-in-Refused : goal.returns-in-Refused
 returns-in-Refused c =
     let i = c.loop-i in
-    let d = did c.args.r c.args.turn i.invariant.0 i.invariant.1 c.loop-i-test.true c.requires.2 c.numbered.ensures (rw c.again.ensures at c.read_row-step.ensures) in
+    let d = did c.args.r c.args.turn i.invariant.0 i.invariant.1 c.loop-i-test.true c.requires.2 c.numbered.ensures c.read_row-step.ensures in
     partly-refused i.invariant.1 c.loop-i-test.true (placed-refused (reading c.args.part c.args.text.now (steps c.args.r c.args.turn i.i) i.p) (sym d.says ∙ ap step_says c.in-Refused.is)) refl
-    (back c.args.r c.args.turn i.invariant.0 i.invariant.1 c.loop-i-test.true c.requires.2 c.numbered.ensures (rw c.again.ensures at c.read_row-step.ensures))
+    (back c.args.r c.args.turn i.invariant.0 i.invariant.1 c.loop-i-test.true c.requires.2 c.numbered.ensures c.read_row-step.ensures)
 
 pub overflow_add-w : goal.overflow_add-w
 overflow_add-w c =
@@ -91,7 +91,7 @@ overflow_add-w c =
 pub loop-i-preserved : goal.loop-i-preserved
 loop-i-preserved c =
     let i = c.loop-i in
-    (omega (arith, i.invariant.0, row-after i.i c.args.r.count), next c.args.r c.args.turn i.invariant.0 i.invariant.1 c.loop-i-test.true c.requires.2 c.numbered.ensures (rw c.again.ensures at c.read_row-step.ensures) (ap step_says c.in-Next.is))
+    (omega (arith, i.invariant.0, row-after i.i c.args.r.count), next c.args.r c.args.turn i.invariant.0 i.invariant.1 c.loop-i-test.true c.requires.2 c.numbered.ensures c.read_row-step.ensures (ap step_says c.in-Next.is))
 
 pub returns : goal.returns
 returns c = partly-all c.loop-i.invariant.1 c.loop-i-test.false refl
