@@ -1,6 +1,4 @@
 -- `blocks::filling::fill` meets its contract. Assumes nothing.
-use mathlib.Core.List.{List}
-use Prim.Native.Nat.{ℕ}
 use native.Mathlib.Omega.{arith}
 use Rattle.slices.specs.Tables.{rows}
 use Rattle.packed.specs.Layout.{front_bytes, part_bytes}
@@ -8,7 +6,6 @@ use Rattle.numbers.proofs.Stores.{stored-then, stored-length}
 use Rattle.blocks.specs.Text.{states_in}
 use Rattle.blocks.specs.Numbers.{family_of}
 use Rattle.blocks.proofs.Measures.{bytes-split}
-use borrow.Author.Rules.{rules}
 use Rattle.blocks.proofs.filling.fill.Goals as goal
 
 pub fill_front-w-requires : goal.fill_front-w-requires

@@ -8,7 +8,6 @@ use Rattle.slices.proofs.Tables.{length-table, tab-same}
 use Rattle.packed.proofs.Packing.{part_length}
 use Rattle.numbers.proofs.Stores.{stored-then, stored-as, stored-length}
 use Rattle.blocks.proofs.Gathered.{column-entry, column-within}
-use borrow.Author.Rules.{rules}
 use Rattle.blocks.proofs.filling.fill_part.Goals as goal
 
 pub fill_table-w-requires : goal.fill_table-w-requires
@@ -22,7 +21,7 @@ fill_table-w-requires c =
 pub gather-requires : goal.gather-requires
 gather-requires c =
     let next : ℕ → ℕ → ℕ =
-        λ p a. get_or c.args.parts.now (c.args.at + (p * (c.args.s + 3) + (3 + a))) 0 in
+    λ p a. get_or c.args.parts.now (c.args.at + (p * (c.args.s + 3) + (3 + a))) 0 in
     record {
       at_bound = (
         omega (arith, c.requires.at_bound.0),
@@ -39,8 +38,8 @@ gather-requires c =
 pub returns : goal.returns
 returns c =
     let next : ℕ → ℕ → ℕ =
-        λ p a. get_or c.args.parts.now (c.args.at + (p * (c.args.s + 3) + (3 + a))) 0 in
+    λ p a. get_or c.args.parts.now (c.args.at + (p * (c.args.s + 3) + (3 + a))) 0 in
     let marks : ℕ → ℕ =
-        λ p. get_or c.args.parts.now (c.args.at + (p * (c.args.s + 3) + 2)) 0 in
+    λ p. get_or c.args.parts.now (c.args.at + (p * (c.args.s + 3) + 2)) 0 in
     stored-then (table c.args.k c.args.s next) (tab c.args.k marks) c.fill_table-w.ensures
     (stored-as (tab-same c.args.k (λ i. get_or c.args.parts.now (c.args.at + 2 + i * (c.args.s + 3)) 0) marks (λ i h. column-entry c.args.parts.now c.args.at 2 (c.args.s + 3) i)) c.gather.ensures)

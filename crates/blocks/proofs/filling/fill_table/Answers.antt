@@ -1,11 +1,10 @@
 -- `blocks::filling::fill_table` meets its contract. Assumes nothing.
 use mathlib.Core.Path.{◌≡◌, ap, sym, subst}
-use Prim.Native.Nat.{ℕ, ◌+◌, ◌*◌, ◌-◌, ◌≤◌, ◌<◌}
+use Prim.Native.Nat.{ℕ, ◌+◌, ◌*◌, ◌≤◌, ◌<◌}
 use native.Mathlib.Omega.{arith}
 use lib.ListN.{get_or}
 use Rattle.slices.specs.Tables.{tab, rows}
 use Rattle.slices.proofs.Tables.{length-tab, tab-same, row-end, row-after}
-use Rattle.numbers.specs.Storing.{Stored}
 use Rattle.numbers.proofs.Stores.{stored-none-rows, stored_row, stored-length, stored-as}
 use Rattle.blocks.proofs.Gathered.{row-entry, row_within, row_low}
 use borrow.Author.Rules.{rules}
@@ -20,7 +19,7 @@ loop-q-init c = (search rules, search rules, omega arith, stored-none-rows _ _ _
 pub gather-w-requires : goal.gather-w-requires
 gather-w-requires c =
     let low : c.loop-q.p ≤ 41123 =
-        row_low c.args.values.now c.args.at c.args.head c.args.s c.loop-q.q c.loop-q.p c.loop-q.invariant.2 c.requires.at_bound.0 (omega (arith, c.loop-q.invariant.0, c.requires.at_bound.3)) c.requires.at_bound.2 c.requires.at_bound.1 in
+    row_low c.args.values.now c.args.at c.args.head c.args.s c.loop-q.q c.loop-q.p c.loop-q.invariant.2 c.requires.at_bound.0 (omega (arith, c.loop-q.invariant.0, c.requires.at_bound.3)) c.requires.at_bound.2 c.requires.at_bound.1 in
     record {
       at_bound = (
         omega (arith, low),
@@ -40,7 +39,7 @@ overflow_add-p-in-loop-q c = omega (arith, c.requires.at_bound)
 pub overflow_add-p-in-loop-q-2 : goal.overflow_add-p-in-loop-q-2
 overflow_add-p-in-loop-q-2 c =
     let low : c.loop-q.p ≤ 41123 =
-        row_low c.args.values.now c.args.at c.args.head c.args.s c.loop-q.q c.loop-q.p c.loop-q.invariant.2 c.requires.at_bound.0 (omega (arith, c.loop-q.invariant.0, c.requires.at_bound.3)) c.requires.at_bound.2 c.requires.at_bound.1 in
+    row_low c.args.values.now c.args.at c.args.head c.args.s c.loop-q.q c.loop-q.p c.loop-q.invariant.2 c.requires.at_bound.0 (omega (arith, c.loop-q.invariant.0, c.requires.at_bound.3)) c.requires.at_bound.2 c.requires.at_bound.1 in
     omega (arith, low, c.requires.at_bound)
 
 pub loop-q-preserved : goal.loop-q-preserved

@@ -1,18 +1,13 @@
 -- The loops of `blocks::filling::fill_table`.
-use mathlib.Core.Path.{◌≡◌, ap, sym, subst}
-use Prim.Native.Nat.{ℕ, ◌+◌, ◌*◌, ◌-◌, ◌≤◌, ◌<◌}
-use native.Mathlib.Omega.{arith}
+use mathlib.Core.Path.{◌≡◌}
+use Prim.Native.Nat.{◌+◌, ◌*◌, ◌-◌, ◌≤◌}
 use lib.ListN.{get_or}
 use Rattle.slices.specs.Tables.{tab, rows}
-use Rattle.slices.proofs.Tables.{length-tab, tab-same, row-end, row-after}
 use Rattle.numbers.specs.Storing.{Stored}
-use Rattle.numbers.proofs.Stores.{stored-none-rows, stored_row, stored-length, stored-as}
-use Rattle.blocks.proofs.Gathered.{row-entry, row_within, row_low}
-use borrow.Author.Rules.{rules}
 use Rattle.blocks.proofs.filling.fill_table.Given as goal
 
 abbrev pub invariant-loop-q : goal.invariant-loop-q
-invariant-loop-q l =     (l.q ≤ l.k) × (l.w ≡ l.to + l.q * l.s) × (l.p ≡ l.at + (l.q * (l.s + l.head) + l.head)) × Stored l.initial.out l.to (rows l.q (λ r. tab l.s (λ a. get_or l.values (l.at + (r * (l.s + l.head) + (l.head + a))) 0))) l.out l.w
+invariant-loop-q l = (l.q ≤ l.k) × (l.w ≡ l.to + l.q * l.s) × (l.p ≡ l.at + (l.q * (l.s + l.head) + l.head)) × Stored l.initial.out l.to (rows l.q (λ r. tab l.s (λ a. get_or l.values (l.at + (r * (l.s + l.head) + (l.head + a))) 0))) l.out l.w
 
 abbrev pub decreases-loop-q : goal.decreases-loop-q
 decreases-loop-q l = l.k - l.q

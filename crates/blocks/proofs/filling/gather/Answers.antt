@@ -1,13 +1,12 @@
 -- `blocks::filling::gather` meets its contract. Assumes nothing.
 use mathlib.Core.Path.{◌≡◌, ap, sym, subst, ◌∙◌}
 use mathlib.Core.List.{[], ◌∷◌}
-use Prim.Native.Nat.{ℕ, ◌+◌, ◌*◌, ◌-◌, ◌≤◌, ◌<◌}
+use Prim.Native.Nat.{ℕ, ◌+◌, ◌*◌, ◌≤◌, ◌<◌}
 use native.Mathlib.Omega.{arith}
 use native.Mathlib.Nat.{mul-le-mul}
 use lib.ListN.{get_or}
 use Rattle.slices.specs.Tables.{tab}
 use Rattle.slices.proofs.Tables.{row-after}
-use Rattle.numbers.specs.Storing.{Stored}
 use Rattle.numbers.proofs.Stores.{stored-none-tab, stored-entry, stored-byte, stored-length, stored-as}
 use borrow.Author.Rules.{rules}
 use Rattle.blocks.proofs.filling.gather.Goals as goal
@@ -21,7 +20,7 @@ loop-i-init c = (search rules, search rules, omega arith, stored-none-tab _ _ _)
 pub offset_bounds-values-p : goal.offset_bounds-values-p
 offset_bounds-values-p c =
     let low : c.loop-i.p ≤ 67136 =
-        omega (arith, c.loop-i.invariant.2, few c.loop-i.i c.args.stride (omega (arith, c.loop-i-test.true, c.requires.at_bound.2)) c.requires.at_bound.1, c.requires.at_bound.0) in
+    omega (arith, c.loop-i.invariant.2, few c.loop-i.i c.args.stride (omega (arith, c.loop-i-test.true, c.requires.at_bound.2)) c.requires.at_bound.1, c.requires.at_bound.0) in
     omega (arith, low)
 
 pub bounds-values-p : goal.bounds-values-p
@@ -30,7 +29,7 @@ bounds-values-p c = omega (arith, c.loop-i.invariant.2, (c.requires.by_index c.l
 pub narrow-requires : goal.narrow-requires
 narrow-requires c =
     let told : c.wide16.result ≡ get_or c.args.values.now (c.args.at + c.loop-i.i * c.args.stride) 0 =
-        c.wide16.ensures ∙ ap (λ (k : ℕ). get_or c.args.values.now k 0) c.loop-i.invariant.2 in
+    c.wide16.ensures ∙ ap (λ (k : ℕ). get_or c.args.values.now k 0) c.loop-i.invariant.2 in
     subst (λ (x : ℕ). x < 256) (sym told) (c.requires.by_index c.loop-i.i c.loop-i-test.true).1
 
 pub bounds-out-w : goal.bounds-out-w
@@ -43,13 +42,13 @@ overflow_add-w c = omega (arith, c.loop-i.invariant.1, c.loop-i-test.true, c.req
 pub overflow_add-p : goal.overflow_add-p
 overflow_add-p c =
     let low : c.loop-i.p ≤ 67136 =
-        omega (arith, c.loop-i.invariant.2, few c.loop-i.i c.args.stride (omega (arith, c.loop-i-test.true, c.requires.at_bound.2)) c.requires.at_bound.1, c.requires.at_bound.0) in
+    omega (arith, c.loop-i.invariant.2, few c.loop-i.i c.args.stride (omega (arith, c.loop-i-test.true, c.requires.at_bound.2)) c.requires.at_bound.1, c.requires.at_bound.0) in
     omega (arith, low, c.requires.at_bound.1)
 
 pub loop-i-preserved : goal.loop-i-preserved
 loop-i-preserved c =
     let told : c.wide16.result ≡ get_or c.args.values.now (c.args.at + c.loop-i.i * c.args.stride) 0 =
-        c.wide16.ensures ∙ ap (λ (k : ℕ). get_or c.args.values.now k 0) c.loop-i.invariant.2 in
+    c.wide16.ensures ∙ ap (λ (k : ℕ). get_or c.args.values.now k 0) c.loop-i.invariant.2 in
     let v = c.narrow.ensures ∙ told in (
       search rules,
       omega (arith, c.loop-i.invariant.1),

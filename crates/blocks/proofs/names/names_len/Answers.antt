@@ -2,7 +2,6 @@
 use mathlib.Core.Path.{sym}
 use native.Mathlib.Omega.{arith}
 use Rattle.blocks.proofs.LetterNames.{names-short, names-length}
-use borrow.Author.Rules.{rules}
 use Rattle.blocks.proofs.names.names_len.Goals as goal
 
 pub returns-then-s-lt10 : goal.returns-then-s-lt10

@@ -10,7 +10,6 @@ use Rattle.format.specs.Rows.{row}
 use Rattle.format.proofs.Fixed.{fixed-literal}
 use Rattle.format.proofs.Following.{reads-refused, reads_as, step-refused, step-within, step_given}
 use Rattle.blocks.specs.Text.{counts_title, counts_row_of}
-use borrow.Author.Rules.{rules}
 use Rattle.blocks.proofs.reading.read_counts.Goals as goal
 
 abbrev counts : List ℕ → Format

@@ -8,7 +8,6 @@ use Rattle.format.specs.Steps.{placed}
 use Rattle.format.proofs.Fixed.{fixed-literal}
 use Rattle.format.proofs.Following.{seq-refused, seq-as, step-refused, step-within, step_given}
 use Rattle.blocks.specs.Text.{names}
-use borrow.Author.Rules.{rules}
 use Rattle.blocks.proofs.reading.read_head.Goals as goal
 
 abbrev feed : List ℕ → Format
@@ -17,18 +16,18 @@ feed vs = literal (10 ∷ [])
 pub read_names-requires : goal.read_names-requires
 read_names-requires c =
     let letters : List ℕ → Format =
-        λ vs. literal (names c.args.s) in
+    λ vs. literal (names c.args.s) in
     (step-within First c.args.text.now (fixed-literal c.args.title.now) letters c.args.at c.read_literal-step.ensures c.requires.0 c.in-Next.is, c.requires.1)
 
 pub returns-in-Refused : goal.returns-in-Refused
 returns-in-Refused c =
     let letters : List ℕ → Format =
-        λ vs. literal (names c.args.s) in
+    λ vs. literal (names c.args.s) in
     ap placed (sym (seq-refused First c.args.text.now (seq (literal c.args.title.now) letters) c.args.at feed (step-refused First c.args.text.now (fixed-literal c.args.title.now) letters c.args.at c.read_literal-step.ensures c.in-Refused.is)))
 
 pub returns-in-Next : goal.returns-in-Next
 returns-in-Next c =
     let letters : List ℕ → Format =
-        λ vs. literal (names c.args.s) in
+    λ vs. literal (names c.args.s) in
     c.read_names.ensures
     ∙ ap placed (sym (seq-as First c.args.text.now (seq (literal c.args.title.now) letters) c.args.at feed (letters []) c.in-Next.e (step_given First c.args.text.now (fixed-literal c.args.title.now) letters c.args.at c.read_literal-step.ensures c.requires.0 c.in-Next.is)))

@@ -10,26 +10,25 @@ use Rattle.format.specs.Rows.{row, numbered}
 use Rattle.format.proofs.Following.{reads-refused, reads_as, step-refused, step-within, step_given}
 use Rattle.blocks.specs.Text.{leading_title, leading_row_of}
 use Rattle.blocks.proofs.Shapes.{fixed-head}
-use borrow.Author.Rules.{rules}
 use Rattle.blocks.proofs.reading.read_leading.Goals as goal
 
 pub read_rows-requires : goal.read_rows-requires
 read_rows-requires c =
     let table : List ℕ → Format =
-        λ vs. each c.args.n (λ q. row (leading_row_of c.args.s c.args.n q)) in
+    λ vs. each c.args.n (λ q. row (leading_row_of c.args.s c.args.n q)) in
     let r = ap (λ (x : Row). c.args.n * x.count) c.leading_row.ensures in
     (step-within First c.args.text.now (fixed-head leading_title c.args.s) table c.args.at c.read_head-step.ensures c.requires.0 c.in-Next.is, omega (arith, c.requires.2), omega (arith, r, c.requires.3))
 
 pub returns-in-Refused : goal.returns-in-Refused
 returns-in-Refused c =
     let table : List ℕ → Format =
-        λ vs. each c.args.n (λ q. row (leading_row_of c.args.s c.args.n q)) in
+    λ vs. each c.args.n (λ q. row (leading_row_of c.args.s c.args.n q)) in
     reads-refused refl (step-refused First c.args.text.now (fixed-head leading_title c.args.s) table c.args.at c.read_head-step.ensures c.in-Refused.is)
 
 pub returns-in-Next : goal.returns-in-Next
 returns-in-Next c =
     let table : List ℕ → Format =
-        λ vs. each c.args.n (λ q. row (leading_row_of c.args.s c.args.n q)) in
+    λ vs. each c.args.n (λ q. row (leading_row_of c.args.s c.args.n q)) in
     reads_as
     (step_given First c.args.text.now (fixed-head leading_title c.args.s) table c.args.at c.read_head-step.ensures c.requires.0 c.in-Next.is
     ∙ ap (λ (r : Row). reading First c.args.text.now (each c.args.n (λ q. row (numbered r 0 q))) c.in-Next.e) (sym c.leading_row.ensures))

@@ -1,10 +1,9 @@
 -- `blocks::reading::read_names` meets its contract. Assumes nothing.
 use mathlib.Core.Path.{◌≡◌, ap, sym, ◌∙◌}
 use mathlib.Core.List.{List, [], ◌∷◌}
-use Prim.Native.Nat.{ℕ, ◌≤◌}
+use Prim.Native.Nat.{ℕ}
 use native.Mathlib.Omega.{arith}
 use lib.ListN.{take}
-use lib.Seq.{length-take-le}
 use Rattle.slices.specs.declared.Part.TheVariants.{First}
 use Rattle.format.specs.Format.{Format, reading, literal}
 use Rattle.format.specs.Steps.{placed, step_says}
@@ -12,7 +11,6 @@ use Rattle.format.proofs.Fixed.{fixed-literal}
 use Rattle.format.proofs.Following.{step-refused, step_given}
 use Rattle.blocks.specs.Text.{names}
 use Rattle.blocks.proofs.LetterNames.{all_names, names_of, names-few}
-use borrow.Author.Rules.{rules}
 use Rattle.blocks.proofs.reading.read_names.Goals as goal
 
 abbrev feed : List ℕ → Format
@@ -24,14 +22,14 @@ shared_ref_as_front-read_literal c = omega (arith, c.names_len.ensures, names-fe
 pub returns-in-Refused : goal.returns-in-Refused
 returns-in-Refused c =
     let named : step_says c.read_literal-step.result ≡ placed (reading First c.args.text.now (literal (names c.args.s)) c.args.at) =
-        c.read_literal-step.ensures
-            ∙ ap (λ (x : List ℕ). placed (reading First c.args.text.now (literal x) c.args.at)) (ap (λ (k : ℕ). take k all_names) c.names_len.ensures ∙ names_of c.args.s c.requires.1) in
+    c.read_literal-step.ensures
+    ∙ ap (λ (x : List ℕ). placed (reading First c.args.text.now (literal x) c.args.at)) (ap (λ (k : ℕ). take k all_names) c.names_len.ensures ∙ names_of c.args.s c.requires.1) in
     ap placed (sym (step-refused First c.args.text.now (fixed-literal (names c.args.s)) feed c.args.at named c.in-Refused.is))
 
 pub returns-in-Next : goal.returns-in-Next
 returns-in-Next c =
     let named : step_says c.read_literal-step.result ≡ placed (reading First c.args.text.now (literal (names c.args.s)) c.args.at) =
-        c.read_literal-step.ensures
-            ∙ ap (λ (x : List ℕ). placed (reading First c.args.text.now (literal x) c.args.at)) (ap (λ (k : ℕ). take k all_names) c.names_len.ensures ∙ names_of c.args.s c.requires.1) in
+    c.read_literal-step.ensures
+    ∙ ap (λ (x : List ℕ). placed (reading First c.args.text.now (literal x) c.args.at)) (ap (λ (k : ℕ). take k all_names) c.names_len.ensures ∙ names_of c.args.s c.requires.1) in
     c.read_literal.ensures
     ∙ ap placed (sym (step_given First c.args.text.now (fixed-literal (names c.args.s)) feed c.args.at named c.requires.0 c.in-Next.is))

@@ -1,10 +1,7 @@
 -- `blocks::seconds::fill_seconds` meets its contract. Assumes nothing.
 use mathlib.Core.Path.{refl}
-use Prim.Native.Nat.{◌+◌, ◌*◌, ◌-◌}
 use native.Mathlib.Omega.{arith}
-use lib.ListN.{get_or}
-use Rattle.slices.proofs.Filling.{Filling, filling-none, filling-more, filling-all}
-use borrow.Author.Rules.{rules}
+use Rattle.slices.proofs.Filling.{filling-none, filling-more, filling-all}
 use Rattle.blocks.proofs.seconds.fill_seconds.Goals as goal
 
 pub loop-a-init : goal.loop-a-init

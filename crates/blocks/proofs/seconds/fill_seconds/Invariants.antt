@@ -1,10 +1,7 @@
 -- The loops of `blocks::seconds::fill_seconds`.
-use mathlib.Core.Path.{refl}
 use Prim.Native.Nat.{◌+◌, ◌*◌, ◌-◌}
-use native.Mathlib.Omega.{arith}
 use lib.ListN.{get_or}
-use Rattle.slices.proofs.Filling.{Filling, filling-none, filling-more, filling-all}
-use borrow.Author.Rules.{rules}
+use Rattle.slices.proofs.Filling.{Filling}
 use Rattle.blocks.proofs.seconds.fill_seconds.Given as goal
 
 abbrev pub invariant-loop-a : goal.invariant-loop-a

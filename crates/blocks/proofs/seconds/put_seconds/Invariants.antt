@@ -1,18 +1,10 @@
 -- The loops of `blocks::seconds::put_seconds`.
-use mathlib.Core.Path.{◌≡◌, ap, sym, ◌∙◌}
-use mathlib.Core.List.{List, [], ◌∷◌}
-use Prim.Native.Nat.{ℕ, ◌+◌, ◌-◌, ◌≤◌}
-use native.Mathlib.Omega.{arith}
-use lib.ListN.{length, get_or, take, length-append}
-use lib.Seq.{length-take-le}
+use mathlib.Core.List.{List}
+use Prim.Native.Nat.{ℕ, ◌-◌, ◌≤◌}
 use Rattle.slices.specs.Tables.{rows}
-use Rattle.slices.proofs.Tables.{rows-within}
 use Rattle.numbers.specs.Storing.{Stored}
-use Rattle.numbers.proofs.Stores.{stored-none-rows, stored_row, stored-then, stored-length, stored-as}
 use Rattle.format.specs.Rows.{line}
-use Rattle.blocks.specs.Text.{times_title, seconds_title, timed, seconds_values}
-use Rattle.blocks.proofs.Durations.{timed-few, title-of, title-few}
-use borrow.Author.Rules.{rules}
+use Rattle.blocks.specs.Text.{seconds_values}
 use Rattle.blocks.proofs.seconds.put_seconds.Given as goal
 
 abbrev pub row : List ℕ → ℕ → List ℕ

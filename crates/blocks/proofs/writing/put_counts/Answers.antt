@@ -5,7 +5,6 @@ use Rattle.numbers.proofs.Stores.{stored-then, stored-as}
 use Rattle.format.specs.Rows.{line}
 use Rattle.blocks.specs.Text.{counts_title}
 use Rattle.blocks.proofs.Lengths.{line-counts}
-use borrow.Author.Rules.{rules}
 use Rattle.blocks.proofs.writing.put_counts.Goals as goal
 
 pub put_row-requires : goal.put_row-requires

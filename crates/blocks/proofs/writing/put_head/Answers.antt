@@ -1,15 +1,13 @@
 -- `blocks::writing::put_head` meets its contract. Assumes nothing.
-use mathlib.Core.Path.{◌≡◌, ap, sym, ◌∙◌}
+use mathlib.Core.Path.{◌≡◌, ap, ◌∙◌}
 use mathlib.Core.List.{[], ◌∷◌, ◌++◌}
 use Prim.Native.Nat.{ℕ, ◌≤◌}
 use native.Mathlib.Omega.{arith}
 use lib.ListN.{length, take}
-use lib.Seq.{length-take-le}
 use Rattle.numbers.proofs.Stores.{stored-then, stored-as}
 use Rattle.blocks.specs.Text.{names}
 use Rattle.blocks.proofs.LetterNames.{all_names, names_of, names-few}
 use Rattle.blocks.proofs.Lengths.{head-length}
-use borrow.Author.Rules.{rules}
 use Rattle.blocks.proofs.writing.put_head.Goals as goal
 
 -- the first bytes of the fixed text are the names

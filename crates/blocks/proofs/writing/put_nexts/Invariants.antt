@@ -1,13 +1,9 @@
 -- The loops of `blocks::writing::put_nexts`.
-use mathlib.Core.Path.{◌≡◌, ap}
-use mathlib.Core.List.{List, [], ◌∷◌}
+use mathlib.Core.List.{List}
 use Prim.Native.Nat.{ℕ, ◌+◌, ◌-◌, ◌≤◌}
-use native.Mathlib.Omega.{arith}
 use lib.ListN.{get_or}
 use Rattle.slices.specs.Tables.{tab}
 use Rattle.numbers.specs.Storing.{Stored}
-use Rattle.numbers.proofs.Stores.{stored-none-tab, stored-entry, stored-byte, stored-length, stored-as}
-use borrow.Author.Rules.{rules}
 use Rattle.blocks.proofs.writing.put_nexts.Given as goal
 
 -- the next states from a place on

@@ -1,15 +1,14 @@
 -- `blocks::writing::put_part` meets its contract. Assumes nothing.
 use mathlib.Core.Path.{◌≡◌, ap, sym, ◌∙◌}
 use mathlib.Core.List.{List}
-use Prim.Native.Nat.{ℕ, ◌+◌, ◌-◌, ◌≤◌}
+use Prim.Native.Nat.{ℕ, ◌+◌, ◌≤◌}
 use native.Mathlib.Omega.{arith}
 use lib.ListN.{length, take}
 use Rattle.slices.specs.Tables.{rows}
 use Rattle.slices.proofs.Filling.{begun_first, written-front}
 use Rattle.slices.proofs.Tables.{rows-within}
 use Rattle.packed.specs.Layout.{size_of, decode}
-use Rattle.numbers.specs.Storing.{Stored}
-use Rattle.numbers.proofs.Stores.{stored-none-rows, stored_row, stored-length, stored-as}
+use Rattle.numbers.proofs.Stores.{stored-none-rows, stored_row, stored-as}
 use Rattle.format.specs.Rows.{line}
 use Rattle.blocks.specs.Text.{progress_values_of}
 use Rattle.blocks.proofs.RowValues.{progress-length}
@@ -26,8 +25,7 @@ slice_bounds-progress_values-end c = sym c.loop-p.invariant.1
 pub progress_values-requires : goal.progress_values-requires
 progress_values-requires c =
     let few : c.args.s ≤ 32 =
-        omega (arith, c.requires.0.header.few_letters, c.requires.1) in
-    (
+    omega (arith, c.requires.0.header.few_letters, c.requires.1) in (
       c.requires.0,
       c.requires.1,
       c.requires.2,
@@ -40,33 +38,33 @@ progress_values-requires c =
 pub overflow_add-row : goal.overflow_add-row
 overflow_add-row c =
     let few : c.args.s ≤ 32 =
-        omega (arith, c.requires.0.header.few_letters, c.requires.1) in
+    omega (arith, c.requires.0.header.few_letters, c.requires.1) in
     omega (arith, few)
 
 pub slice_bounds-row-end : goal.slice_bounds-row-end
 slice_bounds-row-end c =
     let few : c.args.s ≤ 32 =
-        omega (arith, c.requires.0.header.few_letters, c.requires.1) in
+    omega (arith, c.requires.0.header.few_letters, c.requires.1) in
     let values_length : length (progress_values_of (decode c.args.sheet.now) c.args.q c.loop-p.p) ≡ c.args.s + 3 =
-        progress-length c.args.sheet.now c.args.q c.loop-p.p c.requires.1 in
+    progress-length c.args.sheet.now c.args.q c.loop-p.p c.requires.1 in
     let kept : length c.progress_values.new.row ≡ 35 =
-        (begun_first c.progress_values.ensures (omega (arith, values_length, c.loop-p.invariant.1, few))).same ∙ c.loop-p.invariant.1 in
+    (begun_first c.progress_values.ensures (omega (arith, values_length, c.loop-p.invariant.1, few))).same ∙ c.loop-p.invariant.1 in
     omega (arith, few, kept)
 
 pub slice_bounds-put_row-end : goal.slice_bounds-put_row-end
 slice_bounds-put_row-end c =
     let values_length : length (progress_values_of (decode c.args.sheet.now) c.args.q c.loop-p.p) ≡ c.args.s + 3 =
-        progress-length c.args.sheet.now c.args.q c.loop-p.p c.requires.1 in
+    progress-length c.args.sheet.now c.args.q c.loop-p.p c.requires.1 in
     let front : take (c.args.s + 3) c.progress_values.new.row ≡ (progress_values_of (decode c.args.sheet.now) c.args.q c.loop-p.p) =
-        ap (take (c.args.s + 3)) c.progress_values.ensures ∙ written-front (progress_values_of (decode c.args.sheet.now) c.args.q c.loop-p.p) _ values_length in
+    ap (take (c.args.s + 3)) c.progress_values.ensures ∙ written-front (progress_values_of (decode c.args.sheet.now) c.args.q c.loop-p.p) _ values_length in
     sym (ap length front ∙ values_length)
 
 pub put_row-r-requires : goal.put_row-r-requires
 put_row-r-requires c =
     let values_length : length (progress_values_of (decode c.args.sheet.now) c.args.q c.loop-p.p) ≡ c.args.s + 3 =
-        progress-length c.args.sheet.now c.args.q c.loop-p.p c.requires.1 in
+    progress-length c.args.sheet.now c.args.q c.loop-p.p c.requires.1 in
     let front : take (c.args.s + 3) c.progress_values.new.row ≡ (progress_values_of (decode c.args.sheet.now) c.args.q c.loop-p.p) =
-        ap (take (c.args.s + 3)) c.progress_values.ensures ∙ written-front (progress_values_of (decode c.args.sheet.now) c.args.q c.loop-p.p) _ values_length in
+    ap (take (c.args.s + 3)) c.progress_values.ensures ∙ written-front (progress_values_of (decode c.args.sheet.now) c.args.q c.loop-p.p) _ values_length in
     omega (
       arith,
       ap (λ (l : List ℕ). length (line l)) front,
@@ -78,13 +76,13 @@ put_row-r-requires c =
 pub loop-p-preserved : goal.loop-p-preserved
 loop-p-preserved c =
     let few : c.args.s ≤ 32 =
-        omega (arith, c.requires.0.header.few_letters, c.requires.1) in
+    omega (arith, c.requires.0.header.few_letters, c.requires.1) in
     let values_length : length (progress_values_of (decode c.args.sheet.now) c.args.q c.loop-p.p) ≡ c.args.s + 3 =
-        progress-length c.args.sheet.now c.args.q c.loop-p.p c.requires.1 in
+    progress-length c.args.sheet.now c.args.q c.loop-p.p c.requires.1 in
     let front : take (c.args.s + 3) c.progress_values.new.row ≡ (progress_values_of (decode c.args.sheet.now) c.args.q c.loop-p.p) =
-        ap (take (c.args.s + 3)) c.progress_values.ensures ∙ written-front (progress_values_of (decode c.args.sheet.now) c.args.q c.loop-p.p) _ values_length in
+    ap (take (c.args.s + 3)) c.progress_values.ensures ∙ written-front (progress_values_of (decode c.args.sheet.now) c.args.q c.loop-p.p) _ values_length in
     let kept : length c.progress_values.new.row ≡ 35 =
-        (begun_first c.progress_values.ensures (omega (arith, values_length, c.loop-p.invariant.1, few))).same ∙ c.loop-p.invariant.1 in
+    (begun_first c.progress_values.ensures (omega (arith, values_length, c.loop-p.invariant.1, few))).same ∙ c.loop-p.invariant.1 in
     (search rules, kept, stored_row c.loop-p.p (row c.args.sheet.now c.args.q) c.loop-p.invariant.2 (stored-as (ap line front) c.put_row-r.ensures))
 
 pub returns : goal.returns

@@ -1,26 +1,20 @@
 -- The loops of `blocks::writing::put_part`.
-use mathlib.Core.Path.{◌≡◌, ap, sym, ◌∙◌}
+use mathlib.Core.Path.{◌≡◌}
 use mathlib.Core.List.{List}
-use Prim.Native.Nat.{ℕ, ◌+◌, ◌-◌, ◌≤◌}
-use native.Mathlib.Omega.{arith}
-use lib.ListN.{length, take}
+use Prim.Native.Nat.{ℕ, ◌-◌, ◌≤◌}
+use lib.ListN.{length}
 use Rattle.slices.specs.Tables.{rows}
-use Rattle.slices.proofs.Filling.{begun_first, written-front}
-use Rattle.slices.proofs.Tables.{rows-within}
-use Rattle.packed.specs.Layout.{size_of, decode}
+use Rattle.packed.specs.Layout.{decode}
 use Rattle.numbers.specs.Storing.{Stored}
-use Rattle.numbers.proofs.Stores.{stored-none-rows, stored_row, stored-length, stored-as}
 use Rattle.format.specs.Rows.{line}
 use Rattle.blocks.specs.Text.{progress_values_of}
-use Rattle.blocks.proofs.RowValues.{progress-length}
-use borrow.Author.Rules.{rules}
 use Rattle.blocks.proofs.writing.put_part.Given as goal
 
 abbrev pub row : List ℕ → ℕ → ℕ → List ℕ
 row sheet q p = line (progress_values_of (decode sheet) q p)
 
 abbrev pub invariant-loop-p : goal.invariant-loop-p
-invariant-loop-p l =     (l.p ≤ l.k) × (length l.row ≡ 35) × Stored l.initial.out l.at (rows l.p (row l.sheet l.q)) l.out l.r
+invariant-loop-p l = (l.p ≤ l.k) × (length l.row ≡ 35) × Stored l.initial.out l.at (rows l.p (row l.sheet l.q)) l.out l.r
 
 abbrev pub decreases-loop-p : goal.decreases-loop-p
 decreases-loop-p l = l.k - l.p

@@ -1,12 +1,11 @@
 -- `blocks::writing::put_parts` meets its contract. Assumes nothing.
 use mathlib.Core.Path.{◌≡◌, ap}
-use Prim.Native.Nat.{ℕ, ◌-◌, ◌≤◌}
+use Prim.Native.Nat.{ℕ}
 use native.Mathlib.Omega.{arith}
 use Rattle.slices.specs.Tables.{rows}
 use Rattle.slices.proofs.Tables.{rows-within}
 use Rattle.packed.specs.Layout.{decode}
-use Rattle.numbers.specs.Storing.{Stored}
-use Rattle.numbers.proofs.Stores.{stored-none-rows, stored_row, stored-length, stored-as}
+use Rattle.numbers.proofs.Stores.{stored-none-rows, stored_row, stored-as}
 use Rattle.blocks.specs.Lines.{part_text}
 use borrow.Author.Rules.{rules}
 use Rattle.blocks.proofs.writing.put_parts.Goals as goal
@@ -15,13 +14,12 @@ pub loop-q-init : goal.loop-q-init
 loop-q-init c = (search rules, stored-none-rows _ _ _)
 
 pub put_part-p-requires : goal.put_part-p-requires
-put_part-p-requires c =
-    (
-      c.requires.0,
-      c.requires.1,
-      omega (arith, c.loop-q-test.true, c.requires.2),
-      omega (arith, c.loop-q.invariant.1.next, rows-within c.args.n (part_text (decode c.args.sheet.now)) c.loop-q.q c.loop-q-test.true, c.requires.3),
-    )
+put_part-p-requires c = (
+  c.requires.0,
+  c.requires.1,
+  omega (arith, c.loop-q-test.true, c.requires.2),
+  omega (arith, c.loop-q.invariant.1.next, rows-within c.args.n (part_text (decode c.args.sheet.now)) c.loop-q.q c.loop-q-test.true, c.requires.3),
+)
 
 pub loop-q-preserved : goal.loop-q-preserved
 loop-q-preserved c =

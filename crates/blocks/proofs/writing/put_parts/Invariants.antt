@@ -1,14 +1,9 @@
 -- The loops of `blocks::writing::put_parts`.
-use mathlib.Core.Path.{◌≡◌, ap}
-use Prim.Native.Nat.{ℕ, ◌-◌, ◌≤◌}
-use native.Mathlib.Omega.{arith}
+use Prim.Native.Nat.{◌-◌, ◌≤◌}
 use Rattle.slices.specs.Tables.{rows}
-use Rattle.slices.proofs.Tables.{rows-within}
 use Rattle.packed.specs.Layout.{decode}
 use Rattle.numbers.specs.Storing.{Stored}
-use Rattle.numbers.proofs.Stores.{stored-none-rows, stored_row, stored-length, stored-as}
 use Rattle.blocks.specs.Lines.{part_text}
-use borrow.Author.Rules.{rules}
 use Rattle.blocks.proofs.writing.put_parts.Given as goal
 
 abbrev pub invariant-loop-q : goal.invariant-loop-q
