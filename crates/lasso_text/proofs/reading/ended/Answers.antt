@@ -4,7 +4,6 @@ use native.Mathlib.Omega.{arith}
 use Rattle.slices.specs.Refusals.{given, refused}
 use Rattle.lasso_text.specs.Steps.{measured}
 use Rattle.lasso_text.proofs.Onward.{ended-other, ended-none, ended-all}
-use borrow.Author.Rules.{rules}
 use Rattle.lasso_text.proofs.reading.ended.Goals as goal
 
 pub returns-then-at-text : goal.returns-then-at-text

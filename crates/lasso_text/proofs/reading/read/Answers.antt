@@ -1,15 +1,12 @@
 -- `lasso_text::reading::read` meets its contract. Assumes nothing.
-use mathlib.Core.Path.{◌≡◌, ap, sym, ◌∙◌}
-use mathlib.Core.List.{◌++◌}
+use mathlib.Core.Path.{ap, sym, ◌∙◌}
 use Prim.Native.Nat.{◌≤◌, ◌<◌}
 use native.Mathlib.Omega.{arith}
 use lib.ListN.{length}
 use Rattle.slices.proofs.Filling.{none-back}
-use Rattle.slices.specs.Refusals.{Result, fault, given}
-use Rattle.fdfa.specs.Family.{Words}
+use Rattle.slices.specs.Refusals.{fault}
 use Rattle.lasso_text.specs.Reading.{words_of, lengths_say}
 use Rattle.lasso_text.proofs.Rooms.{unmeasured, was-measured, text-refused, short-opening, short-period, enough, lasso-refused, lasso-filled}
-use borrow.Author.Rules.{rules}
 use Rattle.lasso_text.proofs.reading.read.Goals as goal
 
 pub returns-then-opening-m : goal.returns-then-opening-m

@@ -1,12 +1,8 @@
 -- `lasso_text::reading::read_period` meets its contract. Assumes nothing.
-use mathlib.Core.Path.{ap, subst}
+use mathlib.Core.Path.{ap}
 use native.Mathlib.Omega.{arith}
 use Rattle.format.specs.declared.Column.{Column}
-use Rattle.format.specs.Lines.{lines_at, LinesRead}
-use Rattle.lasso_text.specs.Text.{period_name}
-use Rattle.lasso_text.specs.Reading.{letter}
 use Rattle.lasso_text.proofs.Onward.{period-refused, period-read}
-use borrow.Author.Rules.{rules}
 use Rattle.lasso_text.proofs.reading.read_period.Goals as goal
 
 pub read_lines-lines-requires : goal.read_lines-lines-requires

@@ -1,16 +1,12 @@
 -- `lasso_text::reading::read_words` meets its contract. Assumes nothing.
-use mathlib.Core.Path.{◌≡◌, ap, subst, ◌∙◌}
-use Prim.Native.Nat.{ℕ, ◌≤◌}
+use mathlib.Core.Path.{◌≡◌, ap, ◌∙◌}
+use Prim.Native.Nat.{ℕ}
 use native.Mathlib.Omega.{arith}
-use lib.ListN.{length}
-use Rattle.slices.specs.Refusals.{given}
 use Rattle.format.specs.declared.Column.{Column}
-use Rattle.format.specs.Format.{Found}
-use Rattle.format.specs.Lines.{lines_at, LinesRead}
+use Rattle.format.specs.Lines.{lines_at}
 use Rattle.lasso_text.specs.Text.{prefix_name, period_name}
-use Rattle.lasso_text.specs.Reading.{letter, ended, opened, words_of}
+use Rattle.lasso_text.specs.Reading.{letter, ended, opened}
 use Rattle.lasso_text.proofs.Onward.{title-refused, title-read, prefix-refused, prefix-read, words-refused, words-read}
-use borrow.Author.Rules.{rules}
 use Rattle.lasso_text.proofs.reading.read_words.Goals as goal
 
 pub read_lines-lines-requires : goal.read_lines-lines-requires

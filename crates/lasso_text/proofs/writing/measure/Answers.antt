@@ -1,6 +1,6 @@
 -- `lasso_text::writing::measure` meets its contract. Assumes nothing.
 use mathlib.Core.Path.{◌≡◌, ap, sym, ◌∙◌}
-use Prim.Native.Nat.{ℕ, ◌+◌, ◌-◌, ◌≤◌}
+use Prim.Native.Nat.{ℕ, ◌+◌}
 use native.Mathlib.Omega.{arith}
 use lib.ListN.{length}
 use Rattle.slices.specs.Capped.{capped}
@@ -9,7 +9,6 @@ use Rattle.slices.proofs.Capped.{capped_is, capped-sum}
 use Rattle.numbers.specs.Digits.{digits_of}
 use Rattle.lasso_text.specs.Text.{letter_line, letter_lines}
 use Rattle.lasso_text.proofs.Measures.{no_lines, lines_next, line-long}
-use borrow.Author.Rules.{rules}
 use Rattle.lasso_text.proofs.writing.measure.Goals as goal
 
 pub loop-i-init : goal.loop-i-init

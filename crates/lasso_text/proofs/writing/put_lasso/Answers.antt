@@ -7,7 +7,6 @@ use Rattle.numbers.specs.Storing.{Stored}
 use Rattle.numbers.proofs.Stores.{stored-then, stored-as}
 use Rattle.lasso_text.specs.Text.{title, prefix_name, period_name, letter_lines, lasso_text_of}
 use Rattle.lasso_text.proofs.Measures.{text-long}
-use borrow.Author.Rules.{rules}
 use Rattle.lasso_text.proofs.writing.put_lasso.Goals as goal
 
 -- the line of names, the lines of the prefix, those of the period

@@ -5,7 +5,6 @@ use native.Mathlib.Omega.{arith}
 use lib.ListN.{length, length-append}
 use Rattle.numbers.specs.Digits.{field}
 use Rattle.numbers.proofs.Stores.{stored-then, stored-as}
-use borrow.Author.Rules.{rules}
 use Rattle.lasso_text.proofs.writing.put_letter.Goals as goal
 
 pub put_literal-named-requires : goal.put_literal-named-requires

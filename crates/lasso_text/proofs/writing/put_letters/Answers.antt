@@ -1,14 +1,12 @@
 -- `lasso_text::writing::put_letters` meets its contract. Assumes nothing.
 use mathlib.Core.Path.{◌≡◌, ap}
-use Prim.Native.Nat.{ℕ, ◌-◌, ◌≤◌}
+use Prim.Native.Nat.{ℕ}
 use native.Mathlib.Omega.{arith}
 use lib.ListN.{length}
 use Rattle.slices.specs.Tables.{rows}
-use Rattle.numbers.specs.Storing.{Stored}
-use Rattle.numbers.proofs.Stores.{stored-none-rows, stored_row, stored-length, stored-as}
+use Rattle.numbers.proofs.Stores.{stored-none-rows, stored_row, stored-as}
 use Rattle.lasso_text.specs.Text.{letter_line, letter_lines}
 use Rattle.lasso_text.proofs.Measures.{line-within}
-use borrow.Author.Rules.{rules}
 use Rattle.lasso_text.proofs.writing.put_letters.Goals as goal
 
 pub loop-i-init : goal.loop-i-init

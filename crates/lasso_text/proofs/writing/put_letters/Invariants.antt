@@ -1,14 +1,9 @@
 -- The loops of `lasso_text::writing::put_letters`.
-use mathlib.Core.Path.{◌≡◌, ap}
-use Prim.Native.Nat.{ℕ, ◌-◌, ◌≤◌}
-use native.Mathlib.Omega.{arith}
+use Prim.Native.Nat.{◌-◌, ◌≤◌}
 use lib.ListN.{length}
 use Rattle.slices.specs.Tables.{rows}
 use Rattle.numbers.specs.Storing.{Stored}
-use Rattle.numbers.proofs.Stores.{stored-none-rows, stored_row, stored-length, stored-as}
-use Rattle.lasso_text.specs.Text.{letter_line, letter_lines}
-use Rattle.lasso_text.proofs.Measures.{line-within}
-use borrow.Author.Rules.{rules}
+use Rattle.lasso_text.specs.Text.{letter_line}
 use Rattle.lasso_text.proofs.writing.put_letters.Given as goal
 
 abbrev pub invariant-loop-i : goal.invariant-loop-i

@@ -16,7 +16,6 @@ use Rattle.numbers.proofs.Stores.{stored-written}
 use Rattle.lasso_text.specs.Text.{prefix_name, period_name, letter_lines, lasso_text_of}
 use Rattle.lasso_text.specs.Writing.{write_fault}
 use Rattle.lasso_text.proofs.Measures.{text-long}
-use borrow.Author.Rules.{rules}
 use Rattle.lasso_text.proofs.writing.write.Goals as goal
 
 -- the room, after the letters are found good

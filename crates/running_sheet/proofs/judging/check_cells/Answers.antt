@@ -3,7 +3,6 @@ use mathlib.Core.Path.{ap, sym, ◌∙◌}
 use Rattle.slices.specs.Seconds.{timing_says}
 use Rattle.slices.proofs.Refusals.{passed, failed}
 use Rattle.running_sheet.proofs.Faults.{all-cells}
-use borrow.Author.Rules.{rules}
 use Rattle.running_sheet.proofs.judging.check_cells.Goals as goal
 
 pub returns-in-Refused : goal.returns-in-Refused

@@ -3,7 +3,6 @@ use mathlib.Core.Path.{ap, sym, ◌∙◌}
 use native.Mathlib.Omega.{arith}
 use Rattle.slices.specs.Refusals.{fault}
 use Rattle.running_sheet.proofs.Faults.{long-opening, long-loop, not-long}
-use borrow.Author.Rules.{rules}
 use Rattle.running_sheet.proofs.judging.check_lengths.Goals as goal
 
 pub returns-then-prefix-gt-MOST : goal.returns-then-prefix-gt-MOST

@@ -3,7 +3,6 @@ use mathlib.Core.Path.{ap, sym, ◌∙◌}
 use Rattle.slices.specs.LassoLetters.{letters_say}
 use Rattle.slices.proofs.Refusals.{passed, failed}
 use Rattle.running_sheet.specs.Writing.{input_fault}
-use borrow.Author.Rules.{rules}
 use Rattle.running_sheet.proofs.judging.check_show.Goals as goal
 
 pub returns-in-Refused : goal.returns-in-Refused

@@ -1,6 +1,6 @@
 -- `running_sheet::lasting::measure` meets its contract. Assumes nothing.
 use mathlib.Core.Path.{◌≡◌, ap, ◌∙◌}
-use Prim.Native.Nat.{ℕ, ◌+◌, ◌*◌, ◌-◌, ◌≤◌, ◌<◌}
+use Prim.Native.Nat.{ℕ, ◌+◌, ◌≤◌, ◌<◌}
 use native.Mathlib.Omega.{arith}
 use lib.ListN.{length, get_or}
 use Rattle.slices.specs.Tables.{rows}
@@ -8,7 +8,6 @@ use Rattle.numbers.specs.Digits.{digits_of}
 use Rattle.numbers.proofs.Digits.{length_digits}
 use Rattle.running_sheet.specs.Places.{seconds_at, line_at, timed_lines}
 use Rattle.running_sheet.proofs.Measures.{no_lines, lines_next, line-long}
-use borrow.Author.Rules.{rules}
 use Rattle.running_sheet.proofs.lasting.measure.Goals as goal
 
 pub loop-i-init : goal.loop-i-init
@@ -76,8 +75,7 @@ loop-i-preserved c =
     let known : c.wide-letter.result < length c.args.seconds.now = omega (arith, c.wide-letter.ensures, c.requires.1.known c.loop-i.i c.loop-i-test.true) in
     let few : c.wide16.result < 1000 = omega (arith, c.wide16.ensures, c.requires.1.times c.wide-letter.result known) in
     let second : c.small_width-in-loop-i.result ≤ 3 = omega (arith, c.small_width-in-loop-i.ensures, length_digits c.wide16.result few) in
-    let line : length c.args.start.now + c.small_width.result + c.small_width-in-loop-i.result + 2 ≡ length (line_at c.args.start.now c.args.word.now c.args.seconds.now c.loop-i.i) = let x = c.args.word.now in let w = c.args.seconds.now in let i = c.loop-i.i in let d = ap (λ (a : ℕ). length (digits_of a)) c.wide-letter.ensures in let e = ap (λ (a : ℕ). length (digits_of a)) (c.wide16.ensures ∙ ap (λ (a : ℕ). get_or w a 0) c.wide-letter.ensures) in omega (arith, line-long c.args.start.now (get_or x i 0) (seconds_at x w i), c.small_width.ensures, c.small_width-in-loop-i.ensures, d, e) in
-    (
+    let line : length c.args.start.now + c.small_width.result + c.small_width-in-loop-i.result + 2 ≡ length (line_at c.args.start.now c.args.word.now c.args.seconds.now c.loop-i.i) = let x = c.args.word.now in let w = c.args.seconds.now in let i = c.loop-i.i in let d = ap (λ (a : ℕ). length (digits_of a)) c.wide-letter.ensures in let e = ap (λ (a : ℕ). length (digits_of a)) (c.wide16.ensures ∙ ap (λ (a : ℕ). get_or w a 0) c.wide-letter.ensures) in omega (arith, line-long c.args.start.now (get_or x i 0) (seconds_at x w i), c.small_width.ensures, c.small_width-in-loop-i.ensures, d, e) in (
       omega (arith, c.loop-i.invariant.0, line, lines_next c.args.start.now c.args.word.now c.args.seconds.now c.loop-i.i),
       omega (arith, first, second, c.requires.0, c.loop-i.invariant.1),
       omega arith,

@@ -1,14 +1,9 @@
 -- The loops of `running_sheet::lasting::measure`.
-use mathlib.Core.Path.{◌≡◌, ap, ◌∙◌}
-use Prim.Native.Nat.{ℕ, ◌+◌, ◌*◌, ◌-◌, ◌≤◌, ◌<◌}
-use native.Mathlib.Omega.{arith}
-use lib.ListN.{length, get_or}
+use mathlib.Core.Path.{◌≡◌}
+use Prim.Native.Nat.{◌*◌, ◌-◌, ◌≤◌}
+use lib.ListN.{length}
 use Rattle.slices.specs.Tables.{rows}
-use Rattle.numbers.specs.Digits.{digits_of}
-use Rattle.numbers.proofs.Digits.{length_digits}
-use Rattle.running_sheet.specs.Places.{seconds_at, line_at, timed_lines}
-use Rattle.running_sheet.proofs.Measures.{no_lines, lines_next, line-long}
-use borrow.Author.Rules.{rules}
+use Rattle.running_sheet.specs.Places.{line_at}
 use Rattle.running_sheet.proofs.lasting.measure.Given as goal
 
 abbrev pub invariant-loop-i : goal.invariant-loop-i

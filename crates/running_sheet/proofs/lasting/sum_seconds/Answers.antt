@@ -1,12 +1,11 @@
 -- `running_sheet::lasting::sum_seconds` meets its contract. Assumes nothing.
 use mathlib.Core.Path.{◌≡◌, ap, ◌∙◌}
-use Prim.Native.Nat.{ℕ, ◌*◌, ◌-◌, ◌≤◌, ◌<◌}
+use Prim.Native.Nat.{ℕ, ◌<◌}
 use native.Mathlib.Omega.{arith}
 use lib.ListN.{length, get_or}
 use Rattle.slices.specs.Tables.{sum}
 use Rattle.running_sheet.specs.Places.{seconds_at, lasting}
 use Rattle.running_sheet.proofs.Measures.{sum-none, sum-next}
-use borrow.Author.Rules.{rules}
 use Rattle.running_sheet.proofs.lasting.sum_seconds.Goals as goal
 
 pub loop-i-init : goal.loop-i-init

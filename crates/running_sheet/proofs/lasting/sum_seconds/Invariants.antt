@@ -1,12 +1,9 @@
 -- The loops of `running_sheet::lasting::sum_seconds`.
-use mathlib.Core.Path.{◌≡◌, ap, ◌∙◌}
-use Prim.Native.Nat.{ℕ, ◌*◌, ◌-◌, ◌≤◌, ◌<◌}
-use native.Mathlib.Omega.{arith}
-use lib.ListN.{length, get_or}
+use mathlib.Core.Path.{◌≡◌}
+use Prim.Native.Nat.{◌*◌, ◌-◌, ◌≤◌}
+use lib.ListN.{length}
 use Rattle.slices.specs.Tables.{sum}
-use Rattle.running_sheet.specs.Places.{seconds_at, lasting}
-use Rattle.running_sheet.proofs.Measures.{sum-none, sum-next}
-use borrow.Author.Rules.{rules}
+use Rattle.running_sheet.specs.Places.{seconds_at}
 use Rattle.running_sheet.proofs.lasting.sum_seconds.Given as goal
 
 abbrev pub invariant-loop-i : goal.invariant-loop-i

@@ -1,6 +1,5 @@
 -- `running_sheet::writing::fill` meets its contract. Assumes nothing.
 use mathlib.Core.Path.{◌≡◌, ap, sym, ◌∙◌}
-use mathlib.Core.List.{List}
 use Prim.Native.Nat.{ℕ, ◌+◌, ◌≤◌}
 use native.Mathlib.Omega.{arith}
 use lib.ListN.{length}
@@ -15,7 +14,6 @@ use Rattle.running_sheet.specs.Text.{totals_text, running_sheet_of}
 use Rattle.running_sheet.specs.Places.{first_block, lasting}
 use Rattle.running_sheet.proofs.Lines.{text-lines}
 use Rattle.running_sheet.proofs.Measures.{sheet-parts, sheet-long}
-use borrow.Author.Rules.{rules}
 use Rattle.running_sheet.proofs.writing.fill.Goals as goal
 
 pub returns-then-out-need : goal.returns-then-out-need

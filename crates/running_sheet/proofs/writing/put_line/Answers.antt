@@ -2,7 +2,6 @@
 use native.Mathlib.Omega.{arith}
 use Rattle.numbers.proofs.Stores.{stored-then, stored-length}
 use Rattle.running_sheet.proofs.Measures.{line-parts}
-use borrow.Author.Rules.{rules}
 use Rattle.running_sheet.proofs.writing.put_line.Goals as goal
 
 pub put_start-named-requires : goal.put_start-named-requires

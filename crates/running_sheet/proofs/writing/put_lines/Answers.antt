@@ -1,14 +1,12 @@
 -- `running_sheet::writing::put_lines` meets its contract. Assumes nothing.
 use mathlib.Core.Path.{◌≡◌, ap, ◌∙◌}
-use Prim.Native.Nat.{ℕ, ◌-◌, ◌≤◌, ◌<◌}
+use Prim.Native.Nat.{ℕ, ◌<◌}
 use native.Mathlib.Omega.{arith}
 use lib.ListN.{length, get_or}
 use Rattle.slices.specs.Tables.{rows}
-use Rattle.numbers.specs.Storing.{Stored}
 use Rattle.numbers.proofs.Stores.{stored-none-rows, stored_row, stored-length, stored-as}
 use Rattle.running_sheet.specs.Places.{timed_line, line_at, timed_lines}
 use Rattle.running_sheet.proofs.Measures.{line-within}
-use borrow.Author.Rules.{rules}
 use Rattle.running_sheet.proofs.writing.put_lines.Goals as goal
 
 pub loop-i-init : goal.loop-i-init
@@ -27,8 +25,7 @@ bounds-seconds-letter c =
 pub put_line-p-requires : goal.put_line-p-requires
 put_line-p-requires c =
     let known : c.wide-letter.result < length c.args.seconds.now = omega (arith, c.wide-letter.ensures, c.requires.0.known c.loop-i.i c.loop-i-test.true) in
-    let line : timed_line c.args.start.now c.wide-letter.result c.wide16.result ≡ line_at c.args.start.now c.args.word.now c.args.seconds.now c.loop-i.i = let d = c.wide-letter.ensures in let e = c.wide16.ensures ∙ ap (λ (a : ℕ). get_or c.args.seconds.now a 0) d in λ i. timed_line c.args.start.now (d i) (e i) in
-    (
+    let line : timed_line c.args.start.now c.wide-letter.result c.wide16.result ≡ line_at c.args.start.now c.args.word.now c.args.seconds.now c.loop-i.i = let d = c.wide-letter.ensures in let e = c.wide16.ensures ∙ ap (λ (a : ℕ). get_or c.args.seconds.now a 0) d in λ i. timed_line c.args.start.now (d i) (e i) in (
       omega (arith, c.wide-letter.ensures, c.type_inv.word c.loop-i.i),
       omega (arith, c.wide16.ensures, c.requires.0.times c.wide-letter.result known),
       omega (arith, c.requires.1, c.loop-i.invariant.0.next, stored-length c.loop-i.invariant.0, ap length line, line-within c.args.start.now c.args.word.now c.args.seconds.now c.loop-i.i c.loop-i-test.true),

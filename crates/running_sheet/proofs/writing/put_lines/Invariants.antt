@@ -1,14 +1,9 @@
 -- The loops of `running_sheet::writing::put_lines`.
-use mathlib.Core.Path.{◌≡◌, ap, ◌∙◌}
-use Prim.Native.Nat.{ℕ, ◌-◌, ◌≤◌, ◌<◌}
-use native.Mathlib.Omega.{arith}
-use lib.ListN.{length, get_or}
+use Prim.Native.Nat.{◌-◌, ◌≤◌}
+use lib.ListN.{length}
 use Rattle.slices.specs.Tables.{rows}
 use Rattle.numbers.specs.Storing.{Stored}
-use Rattle.numbers.proofs.Stores.{stored-none-rows, stored_row, stored-length, stored-as}
-use Rattle.running_sheet.specs.Places.{timed_line, line_at, timed_lines}
-use Rattle.running_sheet.proofs.Measures.{line-within}
-use borrow.Author.Rules.{rules}
+use Rattle.running_sheet.specs.Places.{line_at}
 use Rattle.running_sheet.proofs.writing.put_lines.Given as goal
 
 abbrev pub invariant-loop-i : goal.invariant-loop-i

@@ -2,7 +2,6 @@
 use native.Mathlib.Omega.{arith}
 use Rattle.numbers.proofs.Stores.{stored-then, stored-length}
 use Rattle.running_sheet.proofs.Measures.{show-long}
-use borrow.Author.Rules.{rules}
 use Rattle.running_sheet.proofs.writing.put_show.Goals as goal
 
 pub put_lines-opened-requires : goal.put_lines-opened-requires

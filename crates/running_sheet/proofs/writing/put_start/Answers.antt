@@ -1,13 +1,11 @@
 -- `running_sheet::writing::put_start` meets its contract. Assumes nothing.
 use mathlib.Core.Path.{◌≡◌, ap, ◌∙◌}
-use Prim.Native.Nat.{ℕ, ◌+◌, ◌-◌, ◌≤◌}
+use Prim.Native.Nat.{ℕ}
 use native.Mathlib.Omega.{arith}
 use lib.ListN.{length, get_or}
 use Rattle.slices.specs.Tables.{tab}
 use Rattle.slices.proofs.Tables.{tab-get_or}
-use Rattle.numbers.specs.Storing.{Stored}
 use Rattle.numbers.proofs.Stores.{stored-byte, stored-none-tab, stored-entry, stored-length, stored-as, stored_at}
-use borrow.Author.Rules.{rules}
 use Rattle.running_sheet.proofs.writing.put_start.Goals as goal
 
 pub loop-i-init : goal.loop-i-init

@@ -1,13 +1,8 @@
 -- The loops of `running_sheet::writing::put_start`.
-use mathlib.Core.Path.{◌≡◌, ap, ◌∙◌}
-use Prim.Native.Nat.{ℕ, ◌+◌, ◌-◌, ◌≤◌}
-use native.Mathlib.Omega.{arith}
+use Prim.Native.Nat.{◌+◌, ◌-◌, ◌≤◌}
 use lib.ListN.{length, get_or}
 use Rattle.slices.specs.Tables.{tab}
-use Rattle.slices.proofs.Tables.{tab-get_or}
 use Rattle.numbers.specs.Storing.{Stored}
-use Rattle.numbers.proofs.Stores.{stored-byte, stored-none-tab, stored-entry, stored-length, stored-as, stored_at}
-use borrow.Author.Rules.{rules}
 use Rattle.running_sheet.proofs.writing.put_start.Given as goal
 
 abbrev pub invariant-loop-i : goal.invariant-loop-i

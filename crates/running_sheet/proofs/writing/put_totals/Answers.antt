@@ -2,7 +2,6 @@
 use native.Mathlib.Omega.{arith}
 use Rattle.numbers.proofs.Stores.{stored-then}
 use Rattle.running_sheet.proofs.Measures.{totals-long}
-use borrow.Author.Rules.{rules}
 use Rattle.running_sheet.proofs.writing.put_totals.Goals as goal
 
 pub put_field-opened-requires : goal.put_field-opened-requires

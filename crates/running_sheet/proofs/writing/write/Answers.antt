@@ -6,7 +6,6 @@ use Rattle.slices.proofs.Refusals.{passed, failed}
 use Rattle.slices.proofs.Filling.{fill-refused, fills-as}
 use Rattle.running_sheet.specs.Writing.{input_fault}
 use Rattle.running_sheet.proofs.Faults.{sound-printable, measurable}
-use borrow.Author.Rules.{rules}
 use Rattle.running_sheet.proofs.writing.write.Goals as goal
 
 pub fill-requires : goal.fill-requires
