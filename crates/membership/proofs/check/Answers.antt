@@ -1,12 +1,10 @@
 -- `membership::check` meets its contract: the prefix in one pass, then the period. Assumes nothing.
 use mathlib.Core.Path.{◌≡◌, ap, sym, subst, ◌∙◌}
 use mathlib.Core.List.{List}
-use Prim.Native.Nat.{ℕ, ◌≤◌}
+use Prim.Native.Nat.{ℕ}
 use native.Mathlib.Omega.{arith}
-use lib.ListN.{length}
-use borrow.Author.Rules.{rules}
 use Rattle.slices.specs.Refusals.{given, refused}
-use Rattle.slices.specs.LassoLetters.{letters_fault, letters_say}
+use Rattle.slices.specs.LassoLetters.{letters_say}
 use Rattle.slices.proofs.Refusals.{refuses, gives}
 use Rattle.fdfa.specs.Words.{Over}
 use Rattle.fdfa.specs.Family.{walk}
@@ -32,7 +30,7 @@ pub pass_on-held-requires : goal.pass_on-held-requires
 pass_on-held-requires c = (c.requires, subst (Within 32) (sym c.start.ensures) (omega arith))
 
 pub returns-in-Unknown : goal.returns-in-Unknown
-returns-in-Unknown c = 
+returns-in-Unknown c =
     ap refused c.refuse.ensures
     ∙ refuses _ (unknown-fault _ _ _ _ (unknown-here _ _ _ (omega arith) (sym (pass c.args.table.now c.args.prefix.now c.args.letters c.start.ensures c.pass_on-held.ensures) ∙ ap pass_says c.in-Unknown.is)))
 

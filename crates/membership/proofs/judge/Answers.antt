@@ -1,5 +1,5 @@
 -- `membership::judge` meets its contract: the lasso is checked, normalized, and run over by the progress automaton. Assumes nothing.
-use mathlib.Core.Path.{◌≡◌, refl, ap, sym, ◌∙◌}
+use mathlib.Core.Path.{◌≡◌, ap, sym, ◌∙◌}
 use mathlib.Core.List.{List}
 use Prim.Native.Nat.{ℕ, ◌+◌, ◌<◌}
 use native.Mathlib.Omega.{arith}
@@ -7,13 +7,13 @@ use Rattle.slices.specs.declared.Refusal.{Refusal}
 use Rattle.slices.specs.Refusals.{sound, given, refused}
 use Rattle.slices.specs.LassoLetters.{letters_fault}
 use Rattle.slices.proofs.Refusals.{refuses, gives, was-given, was-refused}
-use Rattle.fdfa.specs.Family.{Fdfa, walk, Lasso}
+use Rattle.fdfa.specs.Family.{walk, Lasso}
 use Rattle.fdfa.specs.Normalization.{preperiod, period_count}
 use Rattle.fdfa.specs.Acceptance.{loop_state, verdict}
 use Rattle.fdfa.proofs.Letters.{letters-lasso}
 use Rattle.fdfa.proofs.Normal.{inside}
 use Rattle.packed.specs.declared.Sizes.{Sizes}
-use Rattle.packed.specs.Layout.{letter_count, state_count, leading_at, decode, Valid}
+use Rattle.packed.specs.Layout.{letter_count, state_count, decode, Valid}
 use Rattle.packed.specs.Faults.{sizes_of}
 use Rattle.packed.specs.Columns.{columns_of}
 use Rattle.packed.proofs.Reading.{lead-walks}
@@ -23,9 +23,8 @@ use Rattle.membership.specs.declared.Normalization.{Normalization}
 use Rattle.membership.specs.declared.Judgement.{Judgement}
 use Rattle.membership.specs.declared.Judgement.TheVariants as judgement
 use Rattle.membership.specs.Verdict.{says_of}
-use Rattle.membership.specs.Steps.{checked_lasso, check_says, judged_lasso, turns_from, Returns, ended_of}
+use Rattle.membership.specs.Steps.{checked_lasso, judged_lasso, turns_from, Returns, ended_of}
 use Rattle.membership.proofs.Turns.{turning, normalizes}
-use borrow.Author.Rules.{rules}
 use Rattle.membership.proofs.judge.Goals as goal
 
 -- a check that refused is the answer
@@ -70,7 +69,7 @@ returns-in_default c =
     passed_on c.args.sheet.now c.args.prefix.now c.args.period.now c.columns-table.result _ (letters c.args.sheet.now c.requires.1) (c.refused.ensures _ c.in_default.is) c.in_default.ensures
 
 pub normalize-n-requires : goal.normalize-n-requires
-normalize-n-requires c = 
+normalize-n-requires c =
     turning _ _ _ c.requires.0 (lasso c.args.sheet.now c.args.prefix.now c.args.period.now c.requires.0 c.requires.1 c.columns-table.ensures c.in-Lasso.ensures) (lead-table _ c.requires.0 c.requires.1 c.columns-table.ensures) (after c.args.sheet.now c.args.prefix.now c.args.period.now c.requires.0 c.requires.1 c.columns-table.ensures c.in-Lasso.ensures)
 
 pub progress-ended-requires : goal.progress-ended-requires
@@ -80,7 +79,7 @@ progress-ended-requires c = record {
 }
 
 pub returns : goal.returns
-returns c = 
+returns c =
     let n = normal c.args.sheet.now c.args.prefix.now c.args.period.now c.requires.0 c.requires.1 c.columns-table.ensures c.in-Lasso.ensures c.normalize-n.ensures in
     let e = c.progress-ended.ensures ∙ (λ x. ended_of (decode c.args.sheet.now) c.args.period.now (n.2 x) (n.1 x)) in
     (λ x. given (record { accepted = (e x).accepted; i = n.0 x; j = n.1 x; state = n.2 x; end = (e x).end }))

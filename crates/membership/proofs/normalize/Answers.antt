@@ -1,14 +1,13 @@
 -- `membership::normalize` meets its contract: the states so far are noted, and the first that comes again ends it. Assumes nothing.
 use mathlib.Core.Path.{◌≡◌, refl, ap, sym, ◌∙◌}
-use Prim.Native.Nat.{ℕ, ◌-◌, ◌≤◌, ◌<◌}
+use Prim.Native.Nat.{ℕ, ◌<◌}
 use native.Mathlib.Omega.{arith}
-use lib.ListN.{get_or}
 use borrow.Author.Rules.{rules}
 use Rattle.fdfa.proofs.Words.{walk_turn}
 use Rattle.fdfa.proofs.Returns.{smallest}
 use Rattle.packed.specs.Columns.{column_step}
 use Rattle.membership.specs.Steps.{turns_from}
-use Rattle.membership.proofs.Seen.{Seen, Returned, seen_none, room, seen_more, seen-returns}
+use Rattle.membership.proofs.Seen.{seen_none, room, seen_more, seen-returns}
 use Rattle.membership.proofs.Turns.{turns-follow}
 use Rattle.membership.proofs.normalize.Goals as goal
 
@@ -43,7 +42,7 @@ pub loop-seen-smaller : goal.loop-seen-smaller
 loop-seen-smaller c = omega (arith, room (turns_from c.args.table.now c.args.state c.args.period.now) 32 c.requires.inside (omega arith) _ _ c.loop-seen.invariant.0 c.loop-seen.invariant.2 c.loop-seen-test.true)
 
 pub loop-seen-preserved : goal.loop-seen-preserved
-loop-seen-preserved c = 
+loop-seen-preserved c =
     let a = c.args in (
       seen_more (turns_from c.args.table.now c.args.state c.args.period.now) 32 c.requires.inside (omega arith) _ _ c.loop-seen.invariant.0 c.loop-seen.invariant.2 c.loop-seen-test.true,
       omega (arith, room (turns_from c.args.table.now c.args.state c.args.period.now) 32 c.requires.inside (omega arith) _ _ c.loop-seen.invariant.0 c.loop-seen.invariant.2 c.loop-seen-test.true),
@@ -63,7 +62,7 @@ pub overflow_sub-result : goal.overflow_sub-result
 overflow_sub-result c = omega (arith, (seen-returns (turns_from c.args.table.now c.args.state c.args.period.now) 32 c.requires.inside (omega arith) _ _ c.loop-seen.invariant.0 c.loop-seen.invariant.2 (turns-follow (column_step c.args.table.now) c.args.state c.args.period.now) c.loop-seen-test.false).upto)
 
 pub returns : goal.returns
-returns c = 
+returns c =
     let a = c.args in
     let f = (seen-returns (turns_from c.args.table.now c.args.state c.args.period.now) 32 c.requires.inside (omega arith) _ _ c.loop-seen.invariant.0 c.loop-seen.invariant.2 (turns-follow (column_step c.args.table.now) c.args.state c.args.period.now) c.loop-seen-test.false) in
     let s = smallest 32 (turns_from c.args.table.now c.args.state c.args.period.now) (turns-follow (column_step a.table.now) a.state a.period.now) c.requires.inside in

@@ -1,7 +1,7 @@
 -- `membership::progress` meets its contract: after t turns it stands where t turns lead. Assumes nothing.
 use mathlib.Core.Path.{◌≡◌, refl, ap, sym, ◌∙◌}
 use mathlib.Core.List.{List}
-use Prim.Native.Nat.{ℕ, ◌+◌, ◌*◌, ◌-◌, ◌≤◌, ◌<◌}
+use Prim.Native.Nat.{ℕ, ◌+◌, ◌*◌, ◌≤◌, ◌<◌}
 use native.Mathlib.Omega.{arith}
 use lib.Dec.{eqb}
 use lib.ListN.{length, get_or}
@@ -10,7 +10,6 @@ use Rattle.fdfa.specs.Family.{walk}
 use Rattle.fdfa.proofs.Words.{over-power, walk-closed, walk_turn}
 use Rattle.packed.specs.Layout.{letter_count, state_count, size_of, progress_at_value, marks_at, decode, Valid}
 use Rattle.packed.proofs.Bounds.{Body}
-use Rattle.packed.specs.Columns.{column_step, Walkable}
 use Rattle.packed.proofs.Reading.{length-columns, part_of, progress-walks}
 use borrow.Author.Rules.{rules}
 use Rattle.membership.proofs.progress.Goals as goal
@@ -47,7 +46,7 @@ pub size-k-requires : goal.size-k-requires
 size-k-requires c = omega (arith, c.requires.valid.0.header.long, c.requires.valid.2)
 
 pub columns-table-requires : goal.columns-table-requires
-columns-table-requires c = 
+columns-table-requires c =
     let p = c.requires in
     (omega (arith, marks c.args.sheet.now c.args.q c.progress_at-at.ensures c.size-k.ensures c.requires.letters_value, (body c.args.sheet.now c.args.period.now c.args.q c.requires.valid).within), omega (arith, p.letters_value, p.valid.0.header.few_letters))
 
@@ -55,7 +54,7 @@ pub loop-t-init : goal.loop-t-init
 loop-t-init c = (search rules, refl)
 
 pub slice_bounds-walk-end : goal.slice_bounds-walk-end
-slice_bounds-walk-end c = 
+slice_bounds-walk-end c =
     let p = c.requires in
     sym (ap length c.columns-table.ensures ∙ length-columns _ _ _ _ (omega (arith, p.letters_value, p.valid.0.header.few_letters)))
 
@@ -63,7 +62,7 @@ pub walk-end-requires : goal.walk-end-requires
 walk-end-requires c = (progress-walks _ c.requires.valid.0 c.columns-table.ensures c.progress_at-at.ensures c.requires.letters_value c.size-k.ensures c.requires.valid.2 (below c.args.sheet.now c.args.period.now c.args.q c.loop-t.t c.requires.valid c.loop-t.invariant.1) c.requires.valid.1).0
 
 pub loop-t-preserved : goal.loop-t-preserved
-loop-t-preserved c = 
+loop-t-preserved c =
     let s = c.args in
     (search rules, c.walk-end.ensures ∙ ((progress-walks _ c.requires.valid.0 c.columns-table.ensures c.progress_at-at.ensures c.requires.letters_value c.size-k.ensures c.requires.valid.2 (below c.args.sheet.now c.args.period.now c.args.q c.loop-t.t c.requires.valid c.loop-t.invariant.1) c.requires.valid.1).1 ∙ one_more ((decode s.sheet.now).progress s.q) s.period.now _ c.loop-t.t c.loop-t.invariant.1))
 
@@ -77,7 +76,7 @@ pub is_marked-requires : goal.is_marked-requires
 is_marked-requires c = omega (arith, marks c.args.sheet.now c.args.q c.progress_at-at.ensures c.size-k.ensures c.requires.letters_value, (body c.args.sheet.now c.args.period.now c.args.q c.requires.valid).within, below c.args.sheet.now c.args.period.now c.args.q c.loop-t.t c.requires.valid c.loop-t.invariant.1)
 
 pub returns : goal.returns
-returns c = 
+returns c =
     let s = c.args in
     let F = decode s.sheet.now in
     let e = c.loop-t.invariant.1 ∙ all-powers (F.progress s.q) s.period.now c.loop-t.t s.count c.loop-t.invariant.0 c.loop-t-test.false in

@@ -1,18 +1,9 @@
 -- The loops of `membership::progress`.
-use mathlib.Core.Path.{◌≡◌, refl, ap, sym, ◌∙◌}
-use mathlib.Core.List.{List}
-use Prim.Native.Nat.{ℕ, ◌+◌, ◌*◌, ◌-◌, ◌≤◌, ◌<◌}
-use native.Mathlib.Omega.{arith}
-use lib.Dec.{eqb}
-use lib.ListN.{length, get_or}
+use mathlib.Core.Path.{◌≡◌}
+use Prim.Native.Nat.{◌-◌, ◌≤◌}
 use Rattle.fdfa.specs.Words.{power}
 use Rattle.fdfa.specs.Family.{walk}
-use Rattle.fdfa.proofs.Words.{over-power, walk-closed, walk_turn}
-use Rattle.packed.specs.Layout.{letter_count, size_of, progress_at_value, marks_at, decode}
-use Rattle.packed.proofs.Bounds.{Body}
-use Rattle.packed.specs.Columns.{column_step, Walkable}
-use Rattle.packed.proofs.Reading.{length-columns, part_of, progress-walks}
-use borrow.Author.Rules.{rules}
+use Rattle.packed.specs.Layout.{decode}
 use Rattle.membership.proofs.progress.Given as goal
 
 abbrev pub invariant-loop-t : goal.invariant-loop-t

@@ -1,16 +1,13 @@
 -- `membership::verdict` meets its contract: the sheet, then the lasso. Assumes nothing.
-use mathlib.Core.Path.{◌≡◌, ap, sym, ◌∙◌}
-use mathlib.Core.List.{List}
-use Prim.Native.Nat.{ℕ}
+use mathlib.Core.Path.{ap, sym, ◌∙◌}
 use Rattle.slices.specs.declared.Part.TheVariants.{First}
-use Rattle.slices.specs.Refusals.{Fault, sound, unless}
+use Rattle.slices.specs.Refusals.{Fault, unless}
 use Rattle.slices.proofs.Refusals.{passed, failed, refuses, was-given, was-refused}
 use Rattle.fdfa.specs.Acceptance.{verdict}
 use Rattle.packed.specs.Layout.{decode}
-use Rattle.packed.specs.Faults.{sheet_fault, sizes_of, says_of}
+use Rattle.packed.specs.Faults.{sheet_fault, sizes_of}
 use Rattle.packed.proofs.Soundness.{sound-valid}
 use Rattle.membership.specs.Verdict.{lasso_fault}
-use borrow.Author.Rules.{rules}
 use Rattle.membership.proofs.verdict.Goals as goal
 
 pub judge-requires : goal.judge-requires
