@@ -158,7 +158,7 @@ module _ {t front rows : List ℕ} {at : ℕ} (o : Opened t front rows at) where
         v = mapped-given sheet_of (numbers_of t) sheet.1
 
         kept : (v.0.front ≡ blocks.front) × (v.0.timings ≡ blocks.timings)
-        kept = let a = ended-was t _ (reading First t (parts_format (take (3 + n * (s + 2)) front)) at) (sym whole ∙ v.1) in (a.0 ∙ taken, a.1)
+        kept = let a = ended-was t (record { front = take (3 + n * (s + 2)) front; timings = blocks.timings; next = at }) (reading First t (parts_format (take (3 + n * (s + 2)) front)) at) (sym whole ∙ v.1) in (a.0 ∙ taken, a.1)
 
         says-it : said x ≡ sheet_of v.0
         says-it = ap said sheet.1 ∙ sym v.2

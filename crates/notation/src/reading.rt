@@ -26,7 +26,7 @@ fn pack_numbers(
     out: &mut [u8],
 ) -> Written
     requires { Whole front.now parts.now × (s ≡ letters_in front.now) × (n ≡ states_in front.now) × (m ≡ timed (level_in front.now) s) }
-    ensures { (rows : List ℕ) → Packs (ended text.now (record { front = front.entry.now; timings = rows; next = at }) (given (record { values = parts.now; next = at }))) cells out.old out.new result }
+    ensures { (rows : List ℕ) → Packs (ended text.now (record { front = front.now; timings = rows; next = at }) (given (record { values = parts.now; next = at }))) cells out.old out.new result }
 {
     if at != text.len() {
         return Written::Refused(refuse(11, Part::First, at));
@@ -54,7 +54,7 @@ fn read_rest(
     out: &mut [u8],
 ) -> Written
     requires { (at ≤ length text.now) × Fits front_format front.now × (s ≡ letters_in front.now) × (n ≡ states_in front.now) × (m ≡ timed (level_in front.now) s) }
-    ensures { (rows : List ℕ) → Packs (ended text.now (record { front = front.entry.now; timings = rows; next = at }) (reading First text.now (parts_format front.entry.now) at)) cells out.old out.new result }
+    ensures { (rows : List ℕ) → Packs (ended text.now (record { front = front.now; timings = rows; next = at }) (reading First text.now (parts_format front.now) at)) cells out.old out.new result }
 {
     let mut parts = [0u16; 35840];
     let step = read_progress(text, at, front, s, n, &mut parts);
