@@ -1,9 +1,13 @@
 // A file that is written in place: first the part that it grows by, then over the bytes that it had, which are held
 // until all is written. Where one of these fails, the file is as it was.
-ghost use Rattle.io.specs.Counts.{IsPrefixLen};
+ghost use Rattle.console.specs.Files.{IsPrefixLen};
 
 use crate::Staged;
 use crate::looking::NONE;
+use crate::naming::{open_overwrite, open_update};
+use console::{fail, say};
+use std::fs::File;
+use std::io::{Read, Result, Seek, SeekFrom, Write};
 
 // A number of bytes of a slice.
 pub fn within(n: usize, bytes: &[u8]) -> usize
@@ -13,132 +17,176 @@ pub fn within(n: usize, bytes: &[u8]) -> usize
 }
 
 // How many bytes of those that are written lie where a file has bytes already.
-fn kept(old: i64, bytes: &[u8]) -> usize
+fn kept(old: u64, bytes: &[u8]) -> usize
     ensures { IsPrefixLen result bytes.now }
 {
-    io::count(old as isize, bytes)
+    if old < bytes.len() as u64 {
+        old as usize
+    } else {
+        bytes.len()
+    }
 }
 
 // Holds the first bytes of a file, and goes to its end.
-fn hold(fd: i32, n: usize, held: &mut [u8]) -> bool {
-    if libc::lseek(fd, 0, libc::SEEK_SET) != 0 {
-        return false;
-    }
+fn hold(mut file: &File, n: usize, held: &mut [u8]) -> Result<()> {
+    file.seek(SeekFrom::Start(0))?;
     let m = within(n, held);
-    let got = io::read_full(fd, &mut held[..m]);
-    libc::lseek(fd, 0, libc::SEEK_END);
-    got == n
+    file.read_exact(&mut held[..m])?;
+    file.seek(SeekFrom::End(0))?;
+    Ok(())
 }
 
 // Writes the part that a file grows by, and waits until there is room for it.
-fn grow(fd: i32, bytes: &[u8]) -> bool {
-    if !io::write_all(fd, bytes) {
-        return false;
-    }
-    libc::fsync(fd) == 0
+fn grow(mut file: &File, bytes: &[u8]) -> Result<()> {
+    file.write_all(bytes)?;
+    file.sync_all()
 }
 
 // Holds what a file has and writes the part that it grows by.
-fn prepare(fd: i32, n: usize, bytes: &[u8], held: &mut [u8]) -> bool {
-    if !hold(fd, n, held) {
-        return false;
-    }
+fn prepare(file: &File, n: usize, bytes: &[u8], held: &mut [u8]) -> Result<()> {
+    hold(file, n, held)?;
     let m = within(n, bytes);
-    grow(fd, &bytes[m..])
+    grow(file, &bytes[m..])
 }
 
 // Says that a file has more bytes to be written over than can be held.
-fn say_long(path: &[u8]) {
-    io::write_all(libc::STDERR_FILENO, path);
-    io::write_all(
-        libc::STDERR_FILENO,
+fn say_long(rt: &HostRuntime, path: &[u8]) {
+    say(rt, path);
+    say(
+        rt,
         b": too long to be written over in place, nothing is made\n",
     );
 }
 
+// Opens a file, or makes it where a link leads to nothing.
+fn open_at(rt: &HostRuntime, kind: u8, path: &[u8]) -> Result<File> {
+    if kind == NONE {
+        open_overwrite(rt, path)
+    } else {
+        open_update(rt, path)
+    }
+}
+
 // Opens a file, or makes it where a link leads to nothing, and makes it ready. One that has more bytes to be written
 // over than can be held is left as it is, which is said.
-pub fn open_place(kind: u8, path: &[u8], bytes: &[u8], held: &mut [u8]) -> Staged {
-    let fd = if kind == NONE {
-        os::open_overwrite(path)
-    } else {
-        os::open_update(path)
-    };
-    if fd < 0 {
-        os::fail(path);
+pub fn open_place(
+    rt: &HostRuntime,
+    kind: u8,
+    path: &[u8],
+    bytes: &[u8],
+    held: &mut [u8],
+) -> Staged {
+    match open_at(rt, kind, path) {
+        Ok(file) => stage_open(rt, file, path, bytes, held),
+        Err(error) => {
+            fail(rt, path, error);
+            Staged::Failed
+        }
+    }
+}
+
+// Makes a file ready that is open.
+fn stage_open(
+    rt: &HostRuntime,
+    mut file: File,
+    path: &[u8],
+    bytes: &[u8],
+    held: &mut [u8],
+) -> Staged {
+    match file.seek(SeekFrom::End(0)) {
+        Ok(old) => stage_of_length(rt, file, old, path, bytes, held),
+        Err(error) => {
+            fail(rt, path, error);
+            Staged::Failed
+        }
+    }
+}
+
+// The same of one whose length is known.
+fn stage_of_length(
+    rt: &HostRuntime,
+    file: File,
+    old: u64,
+    path: &[u8],
+    bytes: &[u8],
+    held: &mut [u8],
+) -> Staged {
+    let n = kept(old, bytes);
+    if held.len() < n {
+        say_long(rt, path);
         return Staged::Failed;
     }
-    let old = libc::lseek(fd, 0, libc::SEEK_END);
-    if held.len() < kept(old, bytes) {
-        say_long(path);
-        libc::close(fd);
-        return Staged::Failed;
+    match prepare(&file, n, bytes, held) {
+        Ok(()) => Staged::Place(file, old),
+        Err(error) => {
+            fail(rt, path, error);
+            give_back(&file, old, bytes);
+            Staged::Failed
+        }
     }
-    if !prepare(fd, kept(old, bytes), bytes, held) {
-        os::fail(path);
-        give_back(fd, old, bytes);
-        return Staged::Failed;
-    }
-    Staged::Place(fd, old)
 }
 
 // A file that is ready, and not yet written over, is as it was.
-pub fn give_back(fd: i32, old: i64, bytes: &[u8]) {
+pub fn give_back(file: &File, old: u64, bytes: &[u8]) {
     if kept(old, bytes) < bytes.len() {
-        libc::ftruncate(fd, old);
+        let _ = file.set_len(old);
     }
-    libc::close(fd);
 }
 
 // From the start of a file.
-fn overwrite(fd: i32, bytes: &[u8]) -> bool {
-    if libc::lseek(fd, 0, libc::SEEK_SET) != 0 {
-        return false;
-    }
-    io::write_all(fd, bytes)
+fn overwrite(mut file: &File, bytes: &[u8]) -> Result<()> {
+    file.seek(SeekFrom::Start(0))?;
+    file.write_all(bytes)
 }
 
 // A file that was written over is as it was.
-pub fn undo(fd: i32, old: i64, bytes: &[u8], held: &[u8]) {
+pub fn undo(file: &File, old: u64, bytes: &[u8], held: &[u8]) {
     let n = within(kept(old, bytes), held);
-    overwrite(fd, &held[..n]);
-    give_back(fd, old, bytes);
+    let _ = overwrite(file, &held[..n]);
+    give_back(file, old, bytes);
 }
 
 // Over the bytes that a file has.
-pub fn write_over(fd: i32, old: i64, path: &[u8], bytes: &[u8], held: &[u8]) -> bool {
+pub fn write_over(
+    rt: &HostRuntime,
+    file: &File,
+    old: u64,
+    path: &[u8],
+    bytes: &[u8],
+    held: &[u8],
+) -> bool {
     let n = kept(old, bytes);
-    if overwrite(fd, &bytes[..n]) {
-        return true;
+    match overwrite(file, &bytes[..n]) {
+        Ok(()) => true,
+        Err(error) => {
+            fail(rt, path, error);
+            undo(file, old, bytes, held);
+            false
+        }
     }
-    os::fail(path);
-    undo(fd, old, bytes, held);
-    false
 }
 
 // Cuts a file that was longer, and waits until all of it has reached its device.
-fn cut(fd: i32, old: i64, bytes: &[u8]) -> bool {
-    let longer = kept(old, bytes) == bytes.len();
-    if longer && libc::ftruncate(fd, libc::lseek(fd, 0, libc::SEEK_CUR)) < 0 {
-        return false;
+fn cut(mut file: &File, old: u64, bytes: &[u8]) -> Result<()> {
+    if kept(old, bytes) == bytes.len() {
+        let end = file.seek(SeekFrom::Current(0))?;
+        file.set_len(end)?;
     }
-    libc::fsync(fd) == 0
+    file.sync_all()
 }
 
 // A file that was written over is made.
-pub fn settle(fd: i32, old: i64, path: &[u8], bytes: &[u8]) -> bool {
-    let whole = cut(fd, old, bytes);
-    finish(fd, path, whole)
+pub fn settle(rt: &HostRuntime, file: &File, old: u64, path: &[u8], bytes: &[u8]) -> bool {
+    finish(rt, path, cut(file, old, bytes))
 }
 
-// Closes what was written whole or not, and says what failed. Whether all went well.
-pub fn finish(fd: i32, path: &[u8], whole: bool) -> bool {
-    if !whole {
-        os::fail(path);
+// Says what failed. Whether all went well.
+pub fn finish(rt: &HostRuntime, path: &[u8], whole: Result<()>) -> bool {
+    match whole {
+        Ok(()) => true,
+        Err(error) => {
+            fail(rt, path, error);
+            false
+        }
     }
-    let closed = libc::close(fd) == 0;
-    if whole && !closed {
-        os::fail(path);
-    }
-    whole && closed
 }
