@@ -3,7 +3,6 @@ use Prim.Native.Nat.{ℕ}
 use native.Mathlib.Omega.{arith}
 use lib.ListN.{length-replicate}
 use Rattle.notation.proofs.Opening.{opened, unopened}
-use borrow.Author.Rules.{rules}
 use Rattle.notation.proofs.reading.read.Goals as goal
 
 pub read_on-requires : goal.read_on-requires

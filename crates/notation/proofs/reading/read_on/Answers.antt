@@ -1,12 +1,10 @@
 -- `notation::reading::read_on` meets its contract. Assumes nothing.
 use mathlib.Core.Path.{sym}
-use mathlib.Core.List.{List}
-use Prim.Native.Nat.{ℕ, ◌+◌, ◌*◌, ◌≤◌}
+use Prim.Native.Nat.{◌+◌, ◌*◌, ◌≤◌}
 use native.Mathlib.Omega.{arith}
 use lib.ListN.{length}
 use lib.Seq.{length-take-le}
 use Rattle.notation.proofs.Opening.{few, needed, refused-rest, room, filled-rest}
-use borrow.Author.Rules.{rules}
 use Rattle.notation.proofs.reading.read_on.Goals as goal
 
 pub bounds-front-0 : goal.bounds-front-0
@@ -21,27 +19,27 @@ bounds-front-2 c = omega (arith, c.requires.front_room)
 pub overflow_add-len : goal.overflow_add-len
 overflow_add-len c =
     let small : (c.wide16-s.result ≤ 32) × (c.wide16-n.result ≤ 32) × (3 + c.wide16-n.result * (c.wide16-s.result + 2) ≤ 1091) × (c.timed-m.result ≤ 32) =
-        few c.requires c.wide16-level.ensures c.wide16-s.ensures c.wide16-n.ensures c.timed-m.ensures in
+    few c.requires c.wide16-level.ensures c.wide16-s.ensures c.wide16-n.ensures c.timed-m.ensures in
     omega (arith, small)
 
 pub overflow_mul-len : goal.overflow_mul-len
 overflow_mul-len c =
     let small : (c.wide16-s.result ≤ 32) × (c.wide16-n.result ≤ 32) × (3 + c.wide16-n.result * (c.wide16-s.result + 2) ≤ 1091) × (c.timed-m.result ≤ 32) =
-        few c.requires c.wide16-level.ensures c.wide16-s.ensures c.wide16-n.ensures c.timed-m.ensures in
+    few c.requires c.wide16-level.ensures c.wide16-s.ensures c.wide16-n.ensures c.timed-m.ensures in
     omega (arith, small)
 
 pub overflow_add-len-2 : goal.overflow_add-len-2
 overflow_add-len-2 c =
     let small : (c.wide16-s.result ≤ 32) × (c.wide16-n.result ≤ 32) × (3 + c.wide16-n.result * (c.wide16-s.result + 2) ≤ 1091) × (c.timed-m.result ≤ 32) =
-        few c.requires c.wide16-level.ensures c.wide16-s.ensures c.wide16-n.ensures c.timed-m.ensures in
+    few c.requires c.wide16-level.ensures c.wide16-s.ensures c.wide16-n.ensures c.timed-m.ensures in
     omega (arith, small)
 
 pub slice_bounds-read_rest-end : goal.slice_bounds-read_rest-end
 slice_bounds-read_rest-end c =
     let small : (c.wide16-s.result ≤ 32) × (c.wide16-n.result ≤ 32) × (3 + c.wide16-n.result * (c.wide16-s.result + 2) ≤ 1091) × (c.timed-m.result ≤ 32) =
-        few c.requires c.wide16-level.ensures c.wide16-s.ensures c.wide16-n.ensures c.timed-m.ensures in
+    few c.requires c.wide16-level.ensures c.wide16-s.ensures c.wide16-n.ensures c.timed-m.ensures in
     let long : 3 + c.wide16-n.result * (c.wide16-s.result + 2) ≤ length (c.args.front.now) =
-        omega (arith, small.2, c.requires.front_room) in
+    omega (arith, small.2, c.requires.front_room) in
     sym (length-take-le _ _ long)
 
 pub read_rest-answer-requires : goal.read_rest-answer-requires

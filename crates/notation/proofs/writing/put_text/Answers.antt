@@ -1,6 +1,6 @@
 -- `notation::writing::put_text` meets its contract. Assumes nothing.
 use mathlib.Core.Path.{◌≡◌, ap, sym, subst, ◌∙◌}
-use mathlib.Core.List.{List, ◌++◌}
+use mathlib.Core.List.{◌++◌}
 use Prim.Native.Nat.{ℕ, ◌≤◌, ◌<◌}
 use native.Mathlib.Omega.{arith}
 use lib.ListN.{length}
@@ -14,7 +14,6 @@ use Rattle.numbers.proofs.Stores.{stored-as, stored-length, stored-written}
 use Rattle.blocks.specs.Text.{timed, text_of}
 use Rattle.blocks.specs.Lines.{lines_of}
 use Rattle.notation.proofs.Texting.{text-is, too_short_lem, enough}
-use borrow.Author.Rules.{rules}
 use Rattle.notation.proofs.writing.put_text.Goals as goal
 
 pub put_sheet-need-requires : goal.put_sheet-need-requires
@@ -23,12 +22,12 @@ put_sheet-need-requires c = c.requires
 pub returns-then-out-need : goal.returns-then-out-need
 returns-then-out-need c =
     let lines : lines_of c.args.level c.args.seconds.now (decode c.args.sheet.now) ≡ (text_of c.args.level c.args.seconds.now c.args.sheet.now) =
-        text-is c.args.level c.args.seconds.now c.args.sheet.now c.requires.valid.0 c.requires.le_level.0 c.requires.le_level.1
-            (subst (λ (m : ℕ). TimesFit (timed c.args.level m) c.args.seconds.now) c.requires.valid.1 c.requires.le_level.2) in
+    text-is c.args.level c.args.seconds.now c.args.sheet.now c.requires.valid.0 c.requires.le_level.0 c.requires.le_level.1
+    (subst (λ (m : ℕ). TimesFit (timed c.args.level m) c.args.seconds.now) c.requires.valid.1 c.requires.le_level.2) in
     let measured : length (text_of c.args.level c.args.seconds.now c.args.sheet.now) ≡ c.put_sheet-need.result =
-        omega (arith, c.put_sheet-need.ensures.next, ap length lines) in
+    omega (arith, c.put_sheet-need.ensures.next, ap length lines) in
     let unchanged : c.put_sheet-need.new.out ++ c.args.out.now ≡ c.args.out.now =
-        none-back c.put_sheet-need.new.out c.args.out.now (stored-length c.put_sheet-need.ensures) in
+    none-back c.put_sheet-need.new.out c.args.out.now (stored-length c.put_sheet-need.ensures) in
     let less : length c.args.out.now < c.put_sheet-need.result = omega (arith, ap length unchanged, c.if-out-need.true) in
     let f = too_short_lem (text_of c.args.level c.args.seconds.now c.args.sheet.now) c.args.out.now measured less in
     record {
@@ -42,12 +41,12 @@ put_sheet-requires c = c.requires
 pub returns : goal.returns
 returns c =
     let lines : lines_of c.args.level c.args.seconds.now (decode c.args.sheet.now) ≡ (text_of c.args.level c.args.seconds.now c.args.sheet.now) =
-        text-is c.args.level c.args.seconds.now c.args.sheet.now c.requires.valid.0 c.requires.le_level.0 c.requires.le_level.1
-            (subst (λ (m : ℕ). TimesFit (timed c.args.level m) c.args.seconds.now) c.requires.valid.1 c.requires.le_level.2) in
+    text-is c.args.level c.args.seconds.now c.args.sheet.now c.requires.valid.0 c.requires.le_level.0 c.requires.le_level.1
+    (subst (λ (m : ℕ). TimesFit (timed c.args.level m) c.args.seconds.now) c.requires.valid.1 c.requires.le_level.2) in
     let measured : length (text_of c.args.level c.args.seconds.now c.args.sheet.now) ≡ c.put_sheet-need.result =
-        omega (arith, c.put_sheet-need.ensures.next, ap length lines) in
+    omega (arith, c.put_sheet-need.ensures.next, ap length lines) in
     let unchanged : c.put_sheet-need.new.out ++ c.args.out.now ≡ c.args.out.now =
-        none-back c.put_sheet-need.new.out c.args.out.now (stored-length c.put_sheet-need.ensures) in
+    none-back c.put_sheet-need.new.out c.args.out.now (stored-length c.put_sheet-need.ensures) in
     let more : c.put_sheet-need.result ≤ length c.args.out.now = omega (arith, ap length unchanged, c.if-out-need.false) in
     let put = stored-as lines c.put_sheet.ensures in
     fill-given (text_of c.args.level c.args.seconds.now c.args.sheet.now) (enough (text_of c.args.level c.args.seconds.now c.args.sheet.now) c.args.out.now measured more) (sym measured)

@@ -1,8 +1,6 @@
 -- `notation::writing::write` meets its contract. Assumes nothing.
 use mathlib.Core.Path.{◌≡◌, ap, sym, ◌∙◌}
 use mathlib.Core.Bool.{false}
-use mathlib.Core.List.{List}
-use Prim.Native.Nat.{ℕ}
 use Rattle.slices.specs.declared.Part.TheVariants.{First}
 use Rattle.slices.specs.Refusals.{sound, fault}
 use Rattle.slices.specs.Scans.{outside}
@@ -15,7 +13,6 @@ use Rattle.packed.proofs.Soundness.{sound-valid}
 use Rattle.blocks.specs.Text.{text_of}
 use Rattle.notation.specs.Writing.{write_fault}
 use Rattle.notation.proofs.Texting.{fills-after}
-use borrow.Author.Rules.{rules}
 use Rattle.notation.proofs.writing.write.Goals as goal
 
 pub returns-then-is_outside : goal.returns-then-is_outside
@@ -26,9 +23,9 @@ returns-then-is_outside c =
 pub put_timed-requires : goal.put_timed-requires
 put_timed-requires c =
     let within : outside 3 5 c.args.level ≡ false =
-        sym c.is_outside.ensures ∙ c.if-is_outside.false in
+    sym c.is_outside.ensures ∙ c.if-is_outside.false in
     let sized : (sheet_fault First c.args.sheet.now ≡ sound) × (c.in-Valid.sizes ≡ sizes_of c.args.sheet.now) =
-        was-given _ _ (sym (ap says_of c.in-Valid.is) ∙ c.check-validity.ensures) in
+    was-given _ _ (sym (ap says_of c.in-Valid.is) ∙ c.check-validity.ensures) in
     let l = inside 3 5 c.args.level within in
     (sound-valid First c.args.sheet.now sized.0, ap (λ (z : Sizes). z.letters) sized.1, ap (λ (z : Sizes). z.states) sized.1, l.0, l.1)
 
@@ -36,7 +33,7 @@ pub returns-in-Refused : goal.returns-in-Refused
 unfolding write_fault
 returns-in-Refused c =
     let within : outside 3 5 c.args.level ≡ false =
-        sym c.is_outside.ensures ∙ c.if-is_outside.false in
+    sym c.is_outside.ensures ∙ c.if-is_outside.false in
     fill-refused (text_of c.args.level c.args.seconds.now (c.args.sheet.now)) c.args.out.now
     (passed _ (when-passes 10 First 0 within) ∙ failed _ (was-refused (sheet_fault First c.args.sheet.now) (sizes_of c.args.sheet.now) (sym (ap says_of c.in-Refused.is) ∙ c.check-validity.ensures)))
 
@@ -44,7 +41,7 @@ pub returns-in-Valid : goal.returns-in-Valid
 unfolding write_fault
 returns-in-Valid c =
     let within : outside 3 5 c.args.level ≡ false =
-        sym c.is_outside.ensures ∙ c.if-is_outside.false in
+    sym c.is_outside.ensures ∙ c.if-is_outside.false in
     let sized : (sheet_fault First c.args.sheet.now ≡ sound) × (c.in-Valid.sizes ≡ sizes_of c.args.sheet.now) =
-        was-given _ _ (sym (ap says_of c.in-Valid.is) ∙ c.check-validity.ensures) in
+    was-given _ _ (sym (ap says_of c.in-Valid.is) ∙ c.check-validity.ensures) in
     fills-after (passed _ (when-passes 10 First 0 within) ∙ passed _ sized.0) c.put_timed.ensures
