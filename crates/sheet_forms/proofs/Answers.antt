@@ -1,6 +1,6 @@
 -- What the calls below answer, as the packed sheet of a file. Assumes nothing.
 use mathlib.Core.Path.{◌≡◌, refl, ap, ap₂, sym, subst, ◌∙◌}
-use mathlib.Core.Bool.{Bool, true, false, cond}
+use mathlib.Core.Bool.{Bool, cond}
 use mathlib.Core.List.{List, [], ◌∷◌}
 use Prim.Native.Nat.{ℕ, ◌≤◌}
 use native.Mathlib.Omega.{arith}
@@ -11,7 +11,7 @@ use Rattle.slices.specs.declared.Part.{Part}
 use Rattle.slices.specs.declared.Refusal.{Refusal}
 use Rattle.slices.specs.declared.Written.{Written}
 use Rattle.slices.specs.declared.Written.TheVariants.{Filled, Refused}
-use Rattle.slices.specs.Refusals.{Fault, sound, fault, Result, given, refused, unless, mapped, fault_in, written_says}
+use Rattle.slices.specs.Refusals.{Fault, fault, Result, given, refused, unless, mapped, fault_in, written_says}
 use Rattle.slices.specs.Filling.{written, filled, Fills}
 use Rattle.slices.proofs.Refusals.{faulty, was-given, was-refused, sound-given}
 use Rattle.packed.specs.declared.Validity.{Validity}

@@ -1,15 +1,14 @@
 -- Every sheet that is read has room: at most 34,850 bytes, and at most 32 seconds. So no form is refused for room. Assumes nothing.
-use mathlib.Core.Path.{◌≡◌, refl, ap, sym, subst, ◌∙◌}
+use mathlib.Core.Path.{◌≡◌, refl, ◌∙◌}
 use mathlib.Core.Bool.{Bool, true, false, cond}
 use mathlib.Core.List.{List}
 use Prim.Native.Nat.{ℕ, ◌≤◌}
 use native.Mathlib.Omega.{arith}
-use lib.Dec.{eqb, ltb}
+use lib.Dec.{eqb}
 use lib.ListN.{length}
 use borrow.Author.Tests.{le-ltb}
 use Rattle.slices.specs.declared.Part.TheVariants.{Out, Seconds}
-use Rattle.slices.specs.declared.Refusal.{Refusal}
-use Rattle.slices.specs.Refusals.{Fault, sound, fault, ◌then◌, when, Result, given, refused, fault_in}
+use Rattle.slices.specs.Refusals.{sound, Result, given, refused, fault_in}
 use Rattle.slices.proofs.Refusals.{passed, when-passes}
 use Rattle.packed.specs.Layout.{letter_count, Valid}
 use Rattle.packed.proofs.Bounds.{sheet-few}
