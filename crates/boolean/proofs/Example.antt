@@ -10,6 +10,7 @@ use Rattle.slices.specs.Scans.{first_outside_of}
 use Rattle.slices.specs.Tables.{tab, rows, sum}
 use Rattle.packed.specs.Layout.{progress_at_value}
 use Rattle.packed.specs.Faults.{progress_fault, header_fault, tables_fault, sheet_fault}
+use Rattle.boolean.specs.declared.Operation.TheVariants.{Both}
 use Rattle.boolean.specs.Operations.{product_fault, complement_fault, intersection_bytes, union_bytes}
 
 -- the sheet of s letters and n states of k progress states each, all next states and marks 0
@@ -18,10 +19,10 @@ plain s n k = s ∷ n ∷ (replicate n k ++ replicate (n * s + n * k * (s + 1)) 
 
 -- the first sheet, the second, 7, each before what comes after; N before K; K; then the room
 pub refusals :
-    (product_fault (2 ∷ []) [] 0 ≡ fault_of 1 First 1) × (product_fault (plain 1 3 1) [] 0 ≡ fault_of 1 Second 0)
-    × (product_fault (plain 1 3 6) (plain 2 11 6) 0 ≡ fault_of 7 Second 0) × (product_fault (plain 1 3 6) (plain 1 11 6) 0 ≡ fault_of 20 Out 33)
-    × (product_fault (plain 1 1 6) (plain 1 1 6) 0 ≡ fault_of 20 Out 36) × (product_fault (plain 1 1 1) (plain 1 1 2) 7 ≡ fault_of 21 Out 8)
-    × (product_fault (plain 1 1 1) (plain 1 1 2) 8 ≡ sound)
+    (product_fault Both (2 ∷ []) [] 0 ≡ fault_of 1 First 1) × (product_fault Both (plain 1 3 1) [] 0 ≡ fault_of 1 Second 0)
+    × (product_fault Both (plain 1 3 6) (plain 2 11 6) 0 ≡ fault_of 7 Second 0) × (product_fault Both (plain 1 3 6) (plain 1 11 6) 0 ≡ fault_of 20 Out 33)
+    × (product_fault Both (plain 1 1 6) (plain 1 1 6) 0 ≡ fault_of 20 Out 36) × (product_fault Both (plain 1 1 1) (plain 1 1 2) 7 ≡ fault_of 21 Out 8)
+    × (product_fault Both (plain 1 1 1) (plain 1 1 2) 8 ≡ sound)
 unfolding sheet_fault header_fault tables_fault progress_fault progress_at_value sum first_outside_of least largest tab rows
 refusals = (refl, refl, refl, refl, refl, refl, refl)
 
@@ -31,7 +32,7 @@ complements = (refl, refl, refl)
 
 -- 32 places and 32 loop places are allowed
 pub largest-allowed :
-    (product_fault (plain 1 4 1) (plain 1 8 1) 0 ≡ fault_of 21 Out 130) × (product_fault (plain 1 1 4) (plain 1 1 8) 0 ≡ fault_of 21 Out 68)
+    (product_fault Both (plain 1 4 1) (plain 1 8 1) 0 ≡ fault_of 21 Out 130) × (product_fault Both (plain 1 1 4) (plain 1 1 8) 0 ≡ fault_of 21 Out 68)
 unfolding sheet_fault header_fault tables_fault progress_fault progress_at_value sum first_outside_of least largest tab rows
 largest-allowed = (refl, refl)
 
