@@ -2,8 +2,6 @@
 -- part of a show that is too long.
 use mathlib.Core.Path.{◌≡◌, refl}
 use mathlib.Core.Bool.{Bool, true, false}
-use mathlib.Core.List.{List}
-use Prim.Native.Nat.{ℕ}
 use Rattle.slices.specs.declared.Part.TheVariants.{First, Second, Opening, Loop, Work}
 use Rattle.slices.specs.Texts.{bytes}
 use Rattle.numbers.specs.Digits.{digits_within, digits_of}

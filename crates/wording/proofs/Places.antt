@@ -2,13 +2,13 @@
 use mathlib.Core.Path.{◌≡◌, refl, ap, sym, ◌∙◌}
 use mathlib.Core.Bool.{Bool, cond}
 use mathlib.Core.List.{List}
-use Prim.Native.Nat.{ℕ, suc, ◌+◌}
+use Prim.Native.Nat.{ℕ, ◌+◌}
 use native.Mathlib.Numerals.{add-one}
 use lib.Dec.{eqb}
 use lib.ListN.{get_or}
 use borrow.Author.Tests.{eq-eqb, ne_eqb}
 use Rattle.wording.specs.declared.Position.{Position}
-use Rattle.wording.specs.Words.{beyond, position_at}
+use Rattle.wording.specs.Words.{position_at}
 
 pub position-none : (t : List ℕ) → ◌≡◌ {A = Position} (record { line = 1; column = 1 }) (position_at t 0)
 unfolding position_at
