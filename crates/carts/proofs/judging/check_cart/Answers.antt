@@ -1,15 +1,10 @@
 -- `carts::judging::check_cart` meets its contract: the layout, then the shows. Assumes nothing.
-use mathlib.Core.Path.{◌≡◌, ap, sym, ◌∙◌}
-use mathlib.Core.List.{List}
-use Prim.Native.Nat.{ℕ}
+use mathlib.Core.Path.{ap, sym, ◌∙◌}
 use native.Mathlib.Omega.{arith}
-use Rattle.slices.specs.Refusals.{sound}
-use Rattle.slices.specs.LassoLetters.{letters_say}
 use Rattle.slices.proofs.Refusals.{passed, failed}
 use Rattle.carts.specs.Reading.{end_from}
-use Rattle.carts.specs.Faults.{layout_fault, shows_fault, cart_fault}
+use Rattle.carts.specs.Faults.{shows_fault, cart_fault}
 use Rattle.carts.proofs.Layouts.{layout-byte, layout-exact}
-use borrow.Author.Rules.{rules}
 use Rattle.carts.proofs.judging.check_cart.Goals as goal
 
 pub bounds-cart-0 : goal.bounds-cart-0
@@ -24,6 +19,6 @@ returns-in-Refused c = sym (failed _ (sym c.in-Refused.ensures))
 
 pub returns-in-Known : goal.returns-in-Known
 unfolding cart_fault
-returns-in-Known c = 
+returns-in-Known c =
     c.check_shows.ensures
     ∙ (ap (shows_fault c.args.letters c.args.cart.now 1) c.wide.ensures ∙ sym (passed _ (sym c.in-Known.ensures)))

@@ -10,7 +10,6 @@ use Rattle.carts.specs.declared.Span.{Span}
 use Rattle.carts.specs.Reading.{prefix_length, period_length, prefix_at, period_at, end_at}
 use Rattle.carts.specs.Steps.{span_of}
 use Rattle.carts.proofs.Shows.{bad-prefix, no-period, bad-period, good-show}
-use borrow.Author.Rules.{rules}
 use Rattle.carts.proofs.judging.check_show.Goals as goal
 
 -- where the show lies
@@ -40,7 +39,7 @@ pub first_outside-i-requires : goal.first_outside-i-requires
 first_outside-i-requires c = let e = lies c.args.cart.now c.args.at c.locate-span.ensures in omega (arith, e.0, e.1, c.requires)
 
 pub returns-then-i-m : goal.returns-then-i-m
-returns-then-i-m c = 
+returns-then-i-m c =
     let e = lies c.args.cart.now c.args.at c.locate-span.ensures in
     ap fault c.refuse.ensures
     ∙ (ap (λ (o : ℕ). fault_of 9 Opening (o + c.first_outside-i.result)) e.0 ∙ sym (bad-prefix _ _ _ (stops c.args.cart.now c.args.at c.args.letters c.locate-span.ensures c.first_outside-i.ensures) (omega (arith, e.0, e.1, c.if-i-m.true))))
@@ -49,7 +48,7 @@ pub overflow_sub-n : goal.overflow_sub-n
 overflow_sub-n c = let e = lies c.args.cart.now c.args.at c.locate-span.ensures in omega (arith, e.1, e.2)
 
 pub returns-then-n-eq0 : goal.returns-then-n-eq0
-returns-then-n-eq0 c = 
+returns-then-n-eq0 c =
     let e = lies c.args.cart.now c.args.at c.locate-span.ensures in
     ap fault c.refuse-then-n-eq0.ensures ∙ (ap (fault_of 8 Loop) e.1 ∙ sym (no-period _ _ _ (stops c.args.cart.now c.args.at c.args.letters c.locate-span.ensures c.first_outside-i.ensures) (passes c.args.cart.now c.args.at c.args.letters c.locate-span.ensures c.first_outside-i.ensures c.if-i-m.false) (omega (arith, e.1, e.2, c.if-n-eq0.true))))
 
@@ -57,13 +56,13 @@ pub first_outside-j-requires : goal.first_outside-j-requires
 first_outside-j-requires c = let e = lies c.args.cart.now c.args.at c.locate-span.ensures in omega (arith, e.1, e.2, c.requires)
 
 pub returns-then-j-n : goal.returns-then-j-n
-returns-then-j-n c = 
+returns-then-j-n c =
     let e = lies c.args.cart.now c.args.at c.locate-span.ensures in
     ap fault c.refuse-then-j-n.ensures
     ∙ (ap (λ (p : ℕ). fault_of 9 Loop (p + c.first_outside-j.result)) e.1
     ∙ sym (bad-period _ _ _ (stops c.args.cart.now c.args.at c.args.letters c.locate-span.ensures c.first_outside-i.ensures) (passes c.args.cart.now c.args.at c.args.letters c.locate-span.ensures c.first_outside-i.ensures c.if-i-m.false) (some c.args.cart.now c.args.at c.args.letters c.locate-span.ensures c.if-n-eq0.false) (ends c.args.cart.now c.args.at c.args.letters c.locate-span.ensures c.first_outside-j.ensures) (omega (arith, e.1, e.2, c.if-j-n.true))))
 
 pub returns : goal.returns
-returns c = 
+returns c =
     let e = lies c.args.cart.now c.args.at c.locate-span.ensures in
     sym (good-show _ _ _ (stops c.args.cart.now c.args.at c.args.letters c.locate-span.ensures c.first_outside-i.ensures) (passes c.args.cart.now c.args.at c.args.letters c.locate-span.ensures c.first_outside-i.ensures c.if-i-m.false) (some c.args.cart.now c.args.at c.args.letters c.locate-span.ensures c.if-n-eq0.false) (ends c.args.cart.now c.args.at c.args.letters c.locate-span.ensures c.first_outside-j.ensures) (omega (arith, e.1, e.2, c.if-j-n.false)))

@@ -4,8 +4,6 @@ use mathlib.Core.List.{List}
 use Prim.Native.Nat.{ℕ, ◌+◌, ◌-◌, ◌≤◌, ◌<◌}
 use native.Mathlib.Omega.{arith}
 use lib.ListN.{length}
-use borrow.Author.Rules.{rules}
-use Rattle.slices.specs.LassoLetters.{letters_say}
 use Rattle.slices.proofs.Refusals.{passed, failed}
 use Rattle.carts.specs.declared.Span.{Span}
 use Rattle.carts.specs.Reading.{end_at, end_from}
@@ -18,21 +16,21 @@ inside : (b : List ℕ) (at i count : ℕ) → end_from b at (count - i) ≡ len
 inside b at i count inv h = omega (arith, end-rises b (end_at b at) (count - (i + 1)), end-next b at h, inv)
 
 pub loop-i-init : goal.loop-i-init
-loop-i-init c = 
+loop-i-init c =
     (omega arith, ap (end_from c.args.cart.now 1) (all_left c.args.count) ∙ c.requires, ap (shows_fault c.args.letters c.args.cart.now 1) (all_left c.args.count))
 
 pub check_show-judged-requires : goal.check_show-judged-requires
 check_show-judged-requires c = inside c.args.cart.now c.loop-i.at c.loop-i.i c.args.count c.loop-i.invariant.1 c.loop-i-test.true
 
 pub returns-in-Refused : goal.returns-in-Refused
-returns-in-Refused c = 
+returns-in-Refused c =
     sym (sym c.loop-i.invariant.2 ∙ (fault-next _ _ _ c.loop-i-test.true ∙ failed _ (sym c.in-Refused.ensures)))
 
 pub locate-at-requires : goal.locate-at-requires
 locate-at-requires c = omega (arith, inside c.args.cart.now c.loop-i.at c.loop-i.i c.args.count c.loop-i.invariant.1 c.loop-i-test.true)
 
 pub loop-i-preserved : goal.loop-i-preserved
-loop-i-preserved c = 
+loop-i-preserved c =
     let e = ap (λ (z : Span). z.end) c.locate-at.ensures in
     let left = c.args.count - (c.loop-i.i + 1) in (
       omega arith,

@@ -2,12 +2,11 @@
 use mathlib.Core.Path.{◌≡◌, ap, sym, ◌∙◌}
 use mathlib.Core.Bool.{false}
 use mathlib.Core.List.{List}
-use Prim.Native.Nat.{ℕ, ◌+◌, ◌-◌, ◌≤◌, ◌<◌}
+use Prim.Native.Nat.{ℕ, ◌+◌, ◌-◌, ◌<◌}
 use native.Mathlib.Omega.{arith}
 use lib.Dec.{eqb}
 use lib.ListN.{length}
 use borrow.Author.Tests.{ne_eqb}
-use borrow.Author.Rules.{rules}
 use Rattle.carts.specs.declared.Span.{Span}
 use Rattle.carts.specs.Reading.{end_at, end_from}
 use Rattle.carts.specs.Steps.{span_of}
@@ -37,13 +36,12 @@ pub returns-then-cart-at : goal.returns-then-cart-at
 returns-then-cart-at c = sym (past c.args.cart.now c.loop-i.at c.loop-i.i c.args.count c.loop-i.invariant.2 c.loop-i-test.true (omega (arith, next c.args.cart.now c.loop-i.at c.locate-at.ensures, c.if-cart-at.true)))
 
 pub loop-i-preserved : goal.loop-i-preserved
-loop-i-preserved c = 
-    (
-      omega arith,
-      omega (arith, next c.args.cart.now c.loop-i.at c.locate-at.ensures, c.if-cart-at.false),
-      ap (λ (p : ℕ). end_from c.args.cart.now p (c.args.count - (c.loop-i.i + 1))) (next c.args.cart.now c.loop-i.at c.locate-at.ensures) ∙ (sym (end-next c.args.cart.now c.loop-i.at c.loop-i-test.true) ∙ c.loop-i.invariant.2),
-    )
+loop-i-preserved c = (
+  omega arith,
+  omega (arith, next c.args.cart.now c.loop-i.at c.locate-at.ensures, c.if-cart-at.false),
+  ap (λ (p : ℕ). end_from c.args.cart.now p (c.args.count - (c.loop-i.i + 1))) (next c.args.cart.now c.loop-i.at c.locate-at.ensures) ∙ (sym (end-next c.args.cart.now c.loop-i.at c.loop-i-test.true) ∙ c.loop-i.invariant.2),
+)
 
 pub returns : goal.returns
-returns c = 
+returns c =
     ap (λ (p : ℕ). eqb p (length c.args.cart.now)) (sym (end-last c.args.cart.now c.loop-i.at c.loop-i-test.false) ∙ c.loop-i.invariant.2)

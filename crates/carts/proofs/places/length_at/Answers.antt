@@ -1,7 +1,6 @@
 -- `carts::places::length_at` meets its contract. Assumes nothing.
 use Prim.Native.Nat.{◌+◌, ◌<◌}
 use native.Mathlib.Omega.{arith}
-use borrow.Author.Rules.{rules}
 use Rattle.carts.proofs.places.length_at.Goals as goal
 
 -- both bytes are bytes

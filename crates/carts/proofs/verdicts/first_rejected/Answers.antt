@@ -1,11 +1,7 @@
 -- `carts::verdicts::first_rejected` meets its contract: so many shows were accepted, and what is left is good. Assumes nothing.
-use mathlib.Core.Path.{◌≡◌, ap, sym, subst, ◌∙◌}
-use mathlib.Core.List.{List}
-use Prim.Native.Nat.{ℕ, ◌+◌, ◌-◌, ◌≤◌}
+use mathlib.Core.Path.{ap, sym, subst, ◌∙◌}
+use Prim.Native.Nat.{ℕ, ◌+◌, ◌-◌}
 use native.Mathlib.Omega.{arith}
-use borrow.Author.Tests.{not-true, not-false}
-use borrow.Author.Rules.{rules}
-use Rattle.fdfa.specs.Family.{Fdfa}
 use Rattle.packed.specs.Layout.{decode}
 use Rattle.carts.specs.declared.Span.{Span}
 use Rattle.carts.specs.Reading.{shows_from}
@@ -16,7 +12,7 @@ use Rattle.carts.proofs.Answers.{next-within, next-judged, next-good, rejected-h
 use Rattle.carts.proofs.verdicts.first_rejected.Goals as goal
 
 pub loop-i-init : goal.loop-i-init
-loop-i-init c = 
+loop-i-init c =
     let e = all_left c.args.count in (
       omega arith,
       subst (GoodShows c.args.sheet.now c.args.cart.now 1) (sym e) c.requires,
@@ -24,18 +20,18 @@ loop-i-init c =
     )
 
 pub is_accepted-requires : goal.is_accepted-requires
-is_accepted-requires c = 
+is_accepted-requires c =
     (next-within c.loop-i.invariant.1 c.loop-i-test.true, next-judged c.loop-i.invariant.1 c.loop-i-test.true)
 
 pub returns-then-not-is_accepted : goal.returns-then-not-is_accepted
-returns-then-not-is_accepted c = 
+returns-then-not-is_accepted c =
     rejected-here (decode c.args.sheet.now) c.args.cart.now c.loop-i.at c.loop-i.i _ c.loop-i.invariant.2 c.loop-i-test.true c.is_accepted.ensures c.if-not-is_accepted.true
 
 pub locate-at-requires : goal.locate-at-requires
 locate-at-requires c = omega (arith, next-within c.loop-i.invariant.1 c.loop-i-test.true)
 
 pub loop-i-preserved : goal.loop-i-preserved
-loop-i-preserved c = 
+loop-i-preserved c =
     let e = sym (ap (λ (z : Span). z.end) c.locate-at.ensures) in
     let left = c.args.count - (c.loop-i.i + 1) in (
       omega arith,
@@ -45,5 +41,5 @@ loop-i-preserved c =
     )
 
 pub returns : goal.returns
-returns c = 
+returns c =
     accepted-all (decode c.args.sheet.now) c.args.cart.now c.loop-i.at c.loop-i.i _ c.loop-i.invariant.2 c.loop-i.invariant.0 c.loop-i-test.false

@@ -1,22 +1,14 @@
 -- The loops of `carts::verdicts::first_rejected`.
-use mathlib.Core.Path.{◌≡◌, ap, sym, subst, ◌∙◌}
-use mathlib.Core.List.{List}
-use Prim.Native.Nat.{ℕ, ◌+◌, ◌-◌, ◌≤◌}
-use native.Mathlib.Omega.{arith}
-use borrow.Author.Tests.{not-true, not-false}
-use borrow.Author.Rules.{rules}
-use Rattle.fdfa.specs.Family.{Fdfa}
+use mathlib.Core.Path.{◌≡◌}
+use Prim.Native.Nat.{◌+◌, ◌-◌, ◌≤◌}
 use Rattle.packed.specs.Layout.{decode}
-use Rattle.carts.specs.declared.Span.{Span}
 use Rattle.carts.specs.Reading.{shows_from}
 use Rattle.carts.specs.Loads.{first_rejected_of}
 use Rattle.carts.specs.Steps.{GoodShows}
-use Rattle.carts.proofs.Onward.{all_left}
-use Rattle.carts.proofs.Answers.{next-within, next-judged, next-good, rejected-here, accepted-here, accepted-all}
 use Rattle.carts.proofs.verdicts.first_rejected.Given as goal
 
 abbrev pub invariant-loop-i : goal.invariant-loop-i
-invariant-loop-i l =     (l.i ≤ l.count) × GoodShows l.sheet l.cart l.at (l.count - l.i) × (l.i + first_rejected_of (decode l.sheet) (shows_from l.cart l.at (l.count - l.i)) ≡ first_rejected_of (decode l.sheet) (shows_from l.cart 1 l.count))
+invariant-loop-i l = (l.i ≤ l.count) × GoodShows l.sheet l.cart l.at (l.count - l.i) × (l.i + first_rejected_of (decode l.sheet) (shows_from l.cart l.at (l.count - l.i)) ≡ first_rejected_of (decode l.sheet) (shows_from l.cart 1 l.count))
 
 abbrev pub decreases-loop-i : goal.decreases-loop-i
 decreases-loop-i l = l.count - l.i

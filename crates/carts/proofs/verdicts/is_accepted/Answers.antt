@@ -10,7 +10,6 @@ use Rattle.carts.specs.Reading.{prefix_length, period_length, prefix_at, period_
 use Rattle.membership.specs.declared.Judgement.{Judgement}
 use Rattle.carts.specs.Steps.{span_of}
 use Rattle.carts.proofs.Answers.{verdict-accepts, never-refused}
-use borrow.Author.Rules.{rules}
 use Rattle.carts.proofs.verdicts.is_accepted.Goals as goal
 
 -- where the show lies
@@ -52,5 +51,5 @@ pub returns-in-Given : goal.returns-in-Given
 returns-in-Given c = verdict-accepts _ _ _ c.requires.1 c.verdict-judgement.result (says c.args.sheet.now c.args.cart.now c.args.at c.verdict-judgement.result c.locate-span.ensures c.verdict-judgement.ensures) c.in-Given.is
 
 pub returns-in-Refused : goal.returns-in-Refused
-returns-in-Refused c = 
+returns-in-Refused c =
     absurd (never-refused _ _ _ c.requires.1 c.verdict-judgement.result (says c.args.sheet.now c.args.cart.now c.args.at c.verdict-judgement.result c.locate-span.ensures c.verdict-judgement.ensures) c.in-Refused.is)

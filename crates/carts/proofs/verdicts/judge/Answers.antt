@@ -1,30 +1,28 @@
 -- `carts::verdicts::judge` meets its contract: the sheet, then the cart. Assumes nothing.
-use mathlib.Core.Path.{◌≡◌, ap, sym, ◌∙◌}
-use mathlib.Core.List.{List}
+use mathlib.Core.Path.{ap, sym, ◌∙◌}
 use Prim.Native.Nat.{ℕ}
 use lib.ListN.{length}
 use Rattle.slices.specs.declared.Part.TheVariants.{First, Out}
-use Rattle.slices.specs.Refusals.{Fault, sound, ◌then◌, short, unless}
+use Rattle.slices.specs.Refusals.{Fault, ◌then◌, short, unless}
 use Rattle.slices.proofs.Refusals.{passed, failed, refuses, was-given, was-refused}
 use Rattle.packed.specs.declared.Sizes.{Sizes}
 use Rattle.packed.specs.Layout.{decode}
-use Rattle.packed.specs.Faults.{sheet_fault, sizes_of, says_of}
+use Rattle.packed.specs.Faults.{sheet_fault, sizes_of}
 use Rattle.carts.specs.Reading.{shows_of}
 use Rattle.carts.specs.Faults.{cart_fault}
 use Rattle.carts.specs.Loads.{load_by}
-use borrow.Author.Rules.{rules}
 use Rattle.carts.proofs.verdicts.judge.Goals as goal
 
 pub judge_cart-requires : goal.judge_cart-requires
 judge_cart-requires c = ((was-given (sheet_fault First c.args.sheet.now) (sizes_of c.args.sheet.now) c.in-Valid.ensures).0, ap (λ (z : Sizes). z.letters) (was-given (sheet_fault First c.args.sheet.now) (sizes_of c.args.sheet.now) c.in-Valid.ensures).1)
 
 pub returns-in-Refused : goal.returns-in-Refused
-returns-in-Refused c = 
+returns-in-Refused c =
     let b = c.args.sheet.now in
     refuses _ (failed _ (was-refused (sheet_fault First b) (sizes_of b) c.in-Refused.ensures))
 
 pub returns-in-Valid : goal.returns-in-Valid
-returns-in-Valid c = 
+returns-in-Valid c =
     let b = c.args.sheet.now in
     let x = load_by (decode b) (shows_of c.args.cart.now) (length c.args.cart.now) in
     c.judge_cart.ensures

@@ -5,7 +5,6 @@ use Prim.Native.Nat.{ℕ}
 use borrow.Author.Tests.{lt-ltb, le-ltb}
 use Rattle.slices.specs.declared.Part.TheVariants.{First, Out}
 use Rattle.slices.specs.Refusals.{sound, fault}
-use Rattle.slices.specs.LassoLetters.{letters_say}
 use Rattle.slices.proofs.Refusals.{passed, failed, refuses, gives, when-fails, when-passes, then-left, then-right}
 use Rattle.packed.specs.Layout.{letter_count}
 use Rattle.packed.specs.Faults.{sheet_fault}
@@ -13,7 +12,6 @@ use Rattle.carts.specs.Reading.{count_of}
 use Rattle.carts.specs.Faults.{layout_fault, shows_fault, cart_fault}
 use Rattle.carts.specs.Steps.{GoodShows}
 use Rattle.carts.proofs.Layouts.{layout-exact}
-use borrow.Author.Rules.{rules}
 use Rattle.carts.proofs.verdicts.judge_cart.Goals as goal
 
 good : (sheet b : List ℕ) (s : ℕ) → (sheet_fault First sheet ≡ sound) × (s ≡ letter_count sheet) → cart_fault s b ≡ sound → GoodShows sheet b 1 (count_of b)
@@ -25,7 +23,7 @@ good sheet b s h fine = record {
 }
 
 pub returns-then-room-cart : goal.returns-then-room-cart
-returns-then-room-cart c = 
+returns-then-room-cart c =
     refuses _ (passed _ (sym c.in-Known.ensures) ∙ (when-fails 21 Out _ (lt-ltb _ _ c.if-room-cart.true) ∙ ap fault (sym c.refuse.ensures)))
 
 pub judge_shows-requires : goal.judge_shows-requires
@@ -35,5 +33,5 @@ pub returns-in-Refused : goal.returns-in-Refused
 returns-in-Refused c = refuses _ (failed _ (sym c.in-Refused.ensures))
 
 pub returns-else-room-cart : goal.returns-else-room-cart
-returns-else-room-cart c = 
+returns-else-room-cart c =
     c.judge_shows.ensures ∙ gives _ (passed _ (sym c.in-Known.ensures) ∙ when-passes 21 Out _ (le-ltb _ _ c.if-room-cart.false))

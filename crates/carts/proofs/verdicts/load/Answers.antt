@@ -1,10 +1,9 @@
 -- `carts::verdicts::load` meets its contract. Assumes nothing.
 use Rattle.carts.proofs.Answers.{loaded-room, loads-all, loads-none, loads-refused}
-use borrow.Author.Rules.{rules}
 use Rattle.carts.proofs.verdicts.load.Goals as goal
 
 pub copy-requires : goal.copy-requires
-copy-requires c = 
+copy-requires c =
     loaded-room c.args.sheet.now c.args.cart.now c.args.out.now _ c.judge-answer.ensures c.in-Loaded.is
 
 pub returns-in-Loaded : goal.returns-in-Loaded
