@@ -4,7 +4,6 @@ use Rattle.numbers.specs.declared.Number.{Number}
 use Rattle.answers.specs.Layout.{numbers_of, padded}
 use Rattle.answers.proofs.Telling.{told-short, told-long}
 use Rattle.c_text.specs.Numbers.{number_result, read_numbers}
-use borrow.Author.Rules.{rules}
 use Rattle.c_text.proofs.reading.fdfa_number_read.Goals as goal
 
 pub returns-then-answer-lt-ANSWER : goal.returns-then-answer-lt-ANSWER

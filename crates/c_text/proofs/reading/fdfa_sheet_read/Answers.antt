@@ -1,6 +1,5 @@
 -- `c_text::reading::fdfa_sheet_read` meets its contract. Assumes nothing.
 use Rattle.c_text.proofs.TextsRead.{sheet-short, sheet-long}
-use borrow.Author.Rules.{rules}
 use Rattle.c_text.proofs.reading.fdfa_sheet_read.Goals as goal
 
 pub returns-then-answer-lt-ANSWER : goal.returns-then-answer-lt-ANSWER

@@ -6,7 +6,6 @@ use Rattle.slices.specs.Tables.{tab}
 use Rattle.numbers.specs.declared.Number.{Number}
 use Rattle.answers.specs.Layout.{numbers_of, padded}
 use Rattle.c_text.specs.Numbers.{number_result, read_numbers}
-use borrow.Author.Rules.{rules}
 use Rattle.c_text.proofs.reading.number_numbers.Goals as goal
 
 pub returns-in-Good : goal.returns-in-Good

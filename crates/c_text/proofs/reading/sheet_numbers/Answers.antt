@@ -7,7 +7,6 @@ use Rattle.notation.specs.declared.Levelled.{Levelled}
 use Rattle.notation.specs.Reading.{levelled_says}
 use Rattle.answers.specs.Layout.{numbers_of, padded}
 use Rattle.c_text.specs.Numbers.{sheet_numbers_of}
-use borrow.Author.Rules.{rules}
 use Rattle.c_text.proofs.reading.sheet_numbers.Goals as goal
 
 pub returns-in-Filled : goal.returns-in-Filled

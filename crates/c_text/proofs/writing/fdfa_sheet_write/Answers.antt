@@ -1,6 +1,5 @@
 -- `c_text::writing::fdfa_sheet_write` meets its contract. Assumes nothing.
 use Rattle.answers.proofs.Telling.{fill-short, fill-long}
-use borrow.Author.Rules.{rules}
 use Rattle.c_text.proofs.writing.fdfa_sheet_write.Goals as goal
 
 pub returns-then-answer-lt-ANSWER : goal.returns-then-answer-lt-ANSWER
