@@ -7,17 +7,16 @@ use Rattle.answers.specs.Layout.{numbers_of, padded}
 use Rattle.carts.specs.declared.Loading.{Loading}
 use Rattle.carts.specs.Loads.{loading_says}
 use Rattle.c_cart.specs.Numbers.{load_numbers_of}
-use borrow.Author.Rules.{rules}
 use Rattle.c_cart.proofs.load_numbers.Goals as goal
 
 pub returns-in-Loaded : goal.returns-in-Loaded
 unfolding tab
-returns-in-Loaded c = 
+returns-in-Loaded c =
     ap (λ (x : Loading). padded 3 (numbers_of load_numbers_of (loading_says x))) (sym c.in-Loaded.is)
 
 pub returns-in-Rejected : goal.returns-in-Rejected
 unfolding tab
-returns-in-Rejected c = 
+returns-in-Rejected c =
     ap (λ (x : Loading). padded 3 (numbers_of load_numbers_of (loading_says x))) (sym c.in-Rejected.is)
 
 pub returns-in-Refused : goal.returns-in-Refused
