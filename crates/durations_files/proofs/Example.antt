@@ -14,7 +14,7 @@ use Rattle.format.specs.Format.{reading, seq, each}
 use Rattle.format.specs.Rows.{row}
 use Rattle.format.specs.Lines.{labelled, repeats, repeated}
 use Rattle.blocks.specs.Text.{seconds_title, timed, seconds_format, parts_format}
-use Rattle.blocks.specs.Numbers.{blocks_of}
+use Rattle.blocks.specs.Numbers.{blocks_from, blocks_of}
 use Rattle.notation.specs.Reading.{numbers_of, sheet_in}
 use Rattle.lasso_text.specs.Reading.{words_of}
 use Rattle.running_sheet.specs.Writing.{input_fault}
@@ -29,5 +29,5 @@ pub refusals :
     × (says "level scenes places\n4 1 1\nscene seconds\n0 7\nplace loops s0\n0 1 0\nplace loop mark s0\n0 0 1 0\n" "" ≡ fault_of 11 Second 0)
     × (says "level scenes places\n4 1 1\nscene seconds\n0 7\nplace loops s0\n0 1 0\nplace loop mark s0\n0 0 1 0\n" "part scene\nloop 0\nloop 1\n" ≡ fault_of 9 Loop 1)
     × (says "level scenes places\n3 1 1\nplace loops s0\n0 1 0\nplace loop mark s0\n0 0 1 0\n" "part scene\nloop 0\nloop 1\n" ≡ fault_of 9 Loop 0)
-unfolding decided running sheet_in numbers_of blocks_of reading seq each row seconds_format seconds_title timed parts_format number_at_value run_of value_of first_outside_of least digits_of digits_within rows tab words_of labelled repeated repeats input_fault letters_fault period_fault
+unfolding decided running sheet_in numbers_of blocks_of blocks_from reading seq each row seconds_format seconds_title timed parts_format number_at_value run_of value_of first_outside_of least digits_of digits_within rows tab words_of labelled repeated repeats input_fault letters_fault period_fault
 refusals = (refl, refl, refl, refl)
