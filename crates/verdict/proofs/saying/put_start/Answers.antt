@@ -1,0 +1,12 @@
+-- `verdict::saying::put_start` meets its contract. Assumes nothing.
+use mathlib.Core.Bool.{true, false}
+use native.Mathlib.Omega.{arith}
+use Rattle.verdict.proofs.Spoken.{start-stored}
+use borrow.Author.Rules.{rules}
+use Rattle.verdict.proofs.saying.put_start.Goals as goal
+
+pub returns-then-accepted : goal.returns-then-accepted
+returns-then-accepted c = start-stored true c.if-accepted.true (omega arith) c.put_literal.ensures
+
+pub returns : goal.returns
+returns c = start-stored false c.if-accepted.false (omega arith) c.put_literal-2.ensures
