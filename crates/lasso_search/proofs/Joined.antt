@@ -2,7 +2,7 @@
 use mathlib.Core.Path.{◌≡◌, refl, ap, sym, ◌∙◌}
 use mathlib.Core.Bool.{Bool, true, false, cond, ◌&&◌}
 use mathlib.Core.List.{List}
-use Prim.Native.Nat.{ℕ, ◌+◌, ◌*◌, ◌-◌, ◌/◌, ◌%◌, ◌≤◌, ◌<◌}
+use Prim.Native.Nat.{ℕ, ◌+◌, ◌*◌, ◌/◌, ◌%◌, ◌≤◌, ◌<◌}
 use native.Mathlib.Omega.{arith}
 use lib.Arith.{digits_div, digits_mod}
 use lib.Dec.{eqb}
@@ -12,11 +12,9 @@ use Rattle.slices.proofs.Tests.{and_left, and_right, both}
 use Rattle.fdfa.specs.Family.{Closed}
 use Rattle.fdfa.specs.Boolean.{beside}
 use Rattle.search.specs.Words.{Word, ε, ◌·◌, ◌⊑◌, run, Over}
-use Rattle.search.specs.Queue.{met}
 use Rattle.search.specs.Search.{Space, reach, Bounded, Search, Ends, row_step, Tables, Aim, joint, Ready}
 use Rattle.search.proofs.Product.{run-within, prod-run}
 use Rattle.search.proofs.Status.{met-none}
-use Rattle.search.proofs.Letters.{word}
 use Rattle.search.proofs.Theory.{search-none}
 use Rattle.search.proofs.Joint.{bounded}
 use Rattle.search.proofs.Outcomes.{init}

@@ -57,8 +57,8 @@ pub fn first_lasso(
 ) -> Reported
     requires { Alike first.now second.now × (sizes ≡ sizes_of first.now second.now) × (length work.old ≡ sizes.pairs + sizes.pairs * sizes.widest) }
     ensures reports { Reports (difference first.now second.now)
-        (record { opening = opening.entry.now; period = period.old })
-        (record { opening = opening.exit.now; period = period.new })
+        (record { opening = opening.old; period = period.old })
+        (record { opening = opening.new; period = period.new })
         result }
     ensures clears { work.new ≡ replicate (length work.old) 0 }
 {

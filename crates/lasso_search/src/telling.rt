@@ -16,8 +16,8 @@ pub fn tell(
 ) -> Reported
     requires { CanTell front work.now i h }
     ensures { Tells front work.now i h reached
-        (record { opening = opening.entry.now; period = period.old })
-        (record { opening = opening.exit.now; period = period.new })
+        (record { opening = opening.old; period = period.old })
+        (record { opening = opening.new; period = period.new })
         result }
 {
     let u = search::depth(&work[..front], i);
