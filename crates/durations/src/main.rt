@@ -10,7 +10,7 @@ mod answering; // answering.rt: what is printed and said for two files
 mod saying; // saying.rt: a refusal in words
 
 // Prints what is decided of two files, which are named, and says why one is refused.
-fn answer(one: &[u8], text: &[u8], two: &[u8], show: &[u8])
+fn answer(rt: &HostRuntime, one: &[u8], text: &[u8], two: &[u8], show: &[u8])
     requires { (length one.now ≤ 4096) × (length two.now ≤ 4096) }
 {
     let mut out = [0u8; durations_files::TEXT];
@@ -18,48 +18,50 @@ fn answer(one: &[u8], text: &[u8], two: &[u8], show: &[u8])
     let printed = put_answer(one, text, two, show, &mut out, &mut said);
     let n = printed.text;
     let m = printed.said;
-    console::print(&out[..n]);
-    console::say(&said[..m]);
+    console::print(rt, &out[..n]);
+    console::say(rt, &said[..m]);
 }
 
 // Reads the files with these names.
-fn run(one: &[u8], two: &[u8])
+fn run(rt: &HostRuntime, one: &[u8], two: &[u8])
     requires { (length one.now ≤ 4096) × (length two.now ≤ 4096) }
 {
     let mut text = [0u8; console::ROOM];
     let mut show = [0u8; console::ROOM];
-    let n = console::load(one, &mut text);
-    let m = console::load(two, &mut show);
-    answer(one, &text[..n], two, &show[..m]);
+    let n = console::load(rt, one, &mut text);
+    let m = console::load(rt, two, &mut show);
+    answer(rt, one, &text[..n], two, &show[..m]);
 }
 
 // Three lines: what is read, what is printed, an example.
-fn usage() {
+fn usage(rt: &HostRuntime) {
     console::say(
+        rt,
         b"usage: durations [--] TEXT SHOW: reads a sheet's text, of level four, which has the ",
     );
-    console::say(b"seconds of each scene, and a show's text\n");
+    console::say(rt, b"seconds of each scene, and a show's text\n");
     console::say(
+        rt,
         b"prints each scene of the show with its seconds, then how long the opening and one turn ",
     );
-    console::say(b"of the loop last\n");
-    console::say(b"example: durations revised.txt show.txt\n");
+    console::say(rt, b"of the loop last\n");
+    console::say(rt, b"example: durations revised.txt show.txt\n");
 }
 
 // The files that two arguments name.
-fn run_named(i: usize, j: usize) {
-    let mut one = io::buffer();
-    let n = console::name_at(i, &mut one);
-    let mut two = io::buffer();
-    let m = console::name_at(j, &mut two);
-    run(&one[..n], &two[..m]);
+fn run_named(rt: &HostRuntime, i: usize, j: usize) {
+    let mut one = [0u8; console::NAME];
+    let n = console::name_at(rt, i, &mut one);
+    let mut two = [0u8; console::NAME];
+    let m = console::name_at(rt, j, &mut two);
+    run(rt, &one[..n], &two[..m]);
 }
 
-fn main() {
-    let asked = console::arguments();
+fn main(rt: HostRuntime) {
+    let asked = console::arguments(&rt);
     if asked.usage || asked.explain || asked.names != 2 {
-        usage();
+        usage(&rt);
         return;
     }
-    run_named(asked.first, asked.second);
+    run_named(&rt, asked.first, asked.second);
 }
