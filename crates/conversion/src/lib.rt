@@ -2,11 +2,14 @@
 // share.
 #![tactic(auto)]
 
+ghost use Rattle.std.specs.Prelude.{IfSome};
+ghost use Rattle.console.specs.Files.{IsPrefixLen};
+
 mod packing; // packing.rt: from text to packed sheet and seconds
 mod telling; // telling.rt: a refusal, printed and in words
 mod unpacking; // unpacking.rt: from packed sheet and seconds to text, from the text of an automaton to packed sheet
 
-use console::Length;
+use console::{Length, NAME};
 use packing::save_packed;
 use slices::{Part, Refusal};
 use telling::tell;
@@ -40,12 +43,14 @@ fn takes(way: Way, names: usize) -> bool {
     }
 }
 
-// Says that the second name, a target's, is too long.
-fn fail_target(way: Way) {
+// The second name, a target's: none where it is too long, which is said.
+fn target_at(rt: &HostRuntime, way: Way, i: usize, name: &mut [u8]) -> Option<usize>
+    ensures { IfSome result (λ n. IsPrefixLen n name.new) }
+{
     match way {
-        Way::Pack => os::fail(b"SHEET"),
-        Way::Unpack => os::fail(b"TEXT"),
-        Way::Import => os::fail(b"SHEET"),
+        Way::Pack => console::target_at(rt, i, b"SHEET", name),
+        Way::Unpack => console::target_at(rt, i, b"TEXT", name),
+        Way::Import => console::target_at(rt, i, b"SHEET", name),
     }
 }
 
@@ -59,76 +64,85 @@ fn makes_third(way: Way) -> bool {
 }
 
 // Makes what the bytes of a source are turned into. A third file is one of seconds.
-fn convert(way: Way, source: &[u8], bytes: &[u8], target: &[u8], named: bool, third: &[u8]) {
+fn convert(
+    rt: &HostRuntime,
+    way: Way,
+    source: &[u8],
+    bytes: &[u8],
+    target: &[u8],
+    named: bool,
+    third: &[u8],
+) {
     match way {
-        Way::Pack => save_packed(source, bytes, target, named, third),
-        Way::Unpack => save_unpacked(source, bytes, target, named, third),
-        Way::Import => save_imported(source, bytes, target),
+        Way::Pack => save_packed(rt, source, bytes, target, named, third),
+        Way::Unpack => save_unpacked(rt, source, bytes, target, named, third),
+        Way::Import => save_imported(rt, source, bytes, target),
     }
 }
 
 // Reads a source, which is refused where it is too long, and turns it into what the way makes.
-fn judge(way: Way, source: &[u8], target: &[u8], named: bool, third: &[u8]) {
+fn judge(rt: &HostRuntime, way: Way, source: &[u8], target: &[u8], named: bool, third: &[u8]) {
     let mut bytes = [0u8; console::ROOM];
-    let n = console::load(source, &mut bytes);
+    let n = console::load(rt, source, &mut bytes);
     let length = console::check_length(n, Part::First);
     match length {
-        Length::Refused(r) => tell(way, source, &bytes[..n], third, b"", r),
-        Length::Good => convert(way, source, &bytes[..n], target, named, third),
+        Length::Refused(r) => tell(rt, way, source, &bytes[..n], third, b"", r),
+        Length::Good => convert(rt, way, source, &bytes[..n], target, named, third),
     }
 }
 
 // Goes on with the third name, where there is one. A target that is too long to be a name is said, and nothing is made.
-fn name_third(way: Way, source: &[u8], target: &[u8], named: bool, i: usize) {
-    let mut third = io::buffer();
-    let n = console::name_at(i, &mut third);
-    if named && makes_third(way) && os::errno() != 0 {
-        os::fail(b"SECONDS");
+fn name_third(rt: &HostRuntime, way: Way, source: &[u8], target: &[u8], named: bool, i: usize) {
+    if !named {
+        judge(rt, way, source, target, false, b"");
         return;
     }
-    if named {
-        judge(way, source, target, true, &third[..n]);
+    let mut third = [0u8; NAME];
+    match third_at(rt, way, i, &mut third) {
+        Some(n) => judge(rt, way, source, target, true, &third[..n]),
+        None => {}
+    }
+}
+
+// The third name: none where it is too long and the way makes its file, which is said.
+fn third_at(rt: &HostRuntime, way: Way, i: usize, name: &mut [u8]) -> Option<usize>
+    ensures { IfSome result (λ n. IsPrefixLen n name.new) }
+{
+    if makes_third(way) {
+        console::target_at(rt, i, b"SECONDS", name)
     } else {
-        judge(way, source, target, false, b"");
+        Some(console::name_at(rt, i, name))
     }
 }
 
 // Goes on with the names at these places. A source that is too long to be a name counts as missing; of a target that
 // is, this is said, and nothing is made.
-fn name_files(way: Way, first: usize, second: usize, named: bool, last: usize) {
-    let mut source = io::buffer();
-    let n = console::name_at(first, &mut source);
-    let mut target = io::buffer();
-    let m = os::arg(second, &mut target);
-    if os::errno() != 0 {
-        fail_target(way);
-        return;
+fn name_files(rt: &HostRuntime, way: Way, first: usize, second: usize, named: bool, last: usize) {
+    let mut source = [0u8; NAME];
+    let n = console::name_at(rt, first, &mut source);
+    let mut target = [0u8; NAME];
+    match target_at(rt, way, second, &mut target) {
+        Some(m) => name_third(rt, way, &source[..n], &target[..m], named, last),
+        None => {}
     }
-    name_third(way, &source[..n], &target[..m], named, last);
 }
 
 // The place of the first name, where no argument but `--` is an option.
-fn first_name() -> usize {
-    let mut word = io::buffer();
-    let n = os::arg(1, &mut word);
-    if n == 2 && word[0] == b'-' && word[1] == b'-' {
-        2
-    } else {
-        1
-    }
+fn first_name(rt: &HostRuntime) -> usize {
+    if console::is_end(rt, 1) { 2 } else { 1 }
 }
 
 // Turns the file that is named first into the one that is named next, or prints the refusal. A third name is that of
 // the seconds: a target of packing, a source of unpacking.
-pub fn run(way: Way, usage: &[u8]) {
-    let asked = console::arguments();
+pub fn run(rt: &HostRuntime, way: Way, usage: &[u8]) {
+    let asked = console::arguments(rt);
     if asked.usage || asked.explain || !takes(way, asked.names) {
-        console::say(usage);
+        console::say(rt, usage);
         return;
     }
     if asked.names == 3 {
-        name_files(way, first_name(), asked.first, true, asked.second);
+        name_files(rt, way, first_name(rt), asked.first, true, asked.second);
     } else {
-        name_files(way, asked.first, asked.second, false, 0);
+        name_files(rt, way, asked.first, asked.second, false, 0);
     }
 }

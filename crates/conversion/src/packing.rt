@@ -32,60 +32,80 @@ fn pack(text: &[u8], sheet: &mut [u8], seconds: &mut [u8]) -> Packed
 
 // Saves the packed sheet and the seconds of a text, where source and targets are three files. Which are one is said,
 // and nothing is made.
-fn save_three(source: &[u8], target: &[u8], sheet: &[u8], third: &[u8], seconds: &[u8]) {
-    if saving::one_file(target, third) {
-        say_one_target();
+fn save_three(
+    rt: &HostRuntime,
+    source: &[u8],
+    target: &[u8],
+    sheet: &[u8],
+    third: &[u8],
+    seconds: &[u8],
+) {
+    if saving::one_file(rt, target, third) {
+        say_one_target(rt);
         return;
     }
-    if saving::one_file(source, target) {
-        console::say(b"pack: TEXT and SHEET are one file, nothing is made\n");
+    if saving::one_file(rt, source, target) {
+        console::say(rt, b"pack: TEXT and SHEET are one file, nothing is made\n");
         return;
     }
-    if saving::one_file(source, third) {
-        console::say(b"pack: TEXT and SECONDS are one file, nothing is made\n");
+    if saving::one_file(rt, source, third) {
+        console::say(
+            rt,
+            b"pack: TEXT and SECONDS are one file, nothing is made\n",
+        );
         return;
     }
-    if !saving::save_both(target, sheet, third, seconds) {
-        say_one_target();
+    if !saving::save_both(rt, target, sheet, third, seconds) {
+        say_one_target(rt);
     }
 }
 
-fn say_one_target() {
-    console::say(b"pack: SHEET and SECONDS are one file, nothing is made\n");
+fn say_one_target(rt: &HostRuntime) {
+    console::say(
+        rt,
+        b"pack: SHEET and SECONDS are one file, nothing is made\n",
+    );
 }
 
 // Saves the packed sheet of a text alone. Seconds are then not kept, which is said; so such a text does not make room
 // for its sheet.
-fn save_alone(source: &[u8], target: &[u8], sheet: &[u8], level: usize) {
-    if level == 4 && saving::one_file(source, target) {
-        console::say(b"pack: TEXT and SHEET are one file, nothing is made\n");
+fn save_alone(rt: &HostRuntime, source: &[u8], target: &[u8], sheet: &[u8], level: usize) {
+    if level == 4 && saving::one_file(rt, source, target) {
+        console::say(rt, b"pack: TEXT and SHEET are one file, nothing is made\n");
         return;
     }
-    if saving::save(target, sheet) {
-        say_dropped(level);
+    if saving::save(rt, target, sheet) {
+        say_dropped(rt, level);
     }
 }
 
 // Saves what a text says.
-pub fn save_packed(source: &[u8], text: &[u8], target: &[u8], named: bool, third: &[u8]) {
+pub fn save_packed(
+    rt: &HostRuntime,
+    source: &[u8],
+    text: &[u8],
+    target: &[u8],
+    named: bool,
+    third: &[u8],
+) {
     let mut sheet = [0u8; SHEET];
     let mut seconds = [0u8; SECONDS];
     let answer = pack(text, &mut sheet, &mut seconds);
     match answer {
-        Packed::Refused(r) => tell(Way::Pack, source, text, third, b"", r),
+        Packed::Refused(r) => tell(rt, Way::Pack, source, text, third, b"", r),
         Packed::Filled(level, n, m) => {
             if named {
-                save_three(source, target, &sheet[..n], third, &seconds[..m]);
+                save_three(rt, source, target, &sheet[..n], third, &seconds[..m]);
             } else {
-                save_alone(source, target, &sheet[..n], level);
+                save_alone(rt, source, target, &sheet[..n], level);
             }
         }
     }
 }
 
 // Seconds that no file is named for are not kept.
-fn say_dropped(level: usize) {
+fn say_dropped(rt: &HostRuntime, level: usize) {
     if level == 4 {
-        console::say(b"pack: the seconds were not kept\n");
+        console::say(rt, b"pack: the seconds were not kept\n");
     }
 }

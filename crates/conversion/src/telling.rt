@@ -1,6 +1,6 @@
 // A refusal, printed on standard output, and in words on standard error: of which file, and where.
 ghost use Rattle.std.specs.Prelude.{◌≤◌, length};
-ghost use Rattle.io.specs.Counts.{IsPrefixLen};
+ghost use Rattle.console.specs.Files.{IsPrefixLen};
 
 use crate::Way;
 use slices::{Part, Refusal, refuse};
@@ -40,6 +40,7 @@ fn in_files(r: Refusal) -> Refusal {
 
 // Says a refusal in words. The first file is lines of text or not, the second is not.
 fn say_words(
+    rt: &HostRuntime,
     program: &[u8],
     one: &[u8],
     first: &[u8],
@@ -64,7 +65,7 @@ fn say_words(
         r,
         &mut words,
     );
-    console::say(&words[..count]);
+    console::say(rt, &words[..count]);
 }
 
 // Whether a refusal is that there are too few seconds.
@@ -76,22 +77,30 @@ fn lacks_seconds(r: Refusal) -> bool {
     }
 }
 
-fn say_short(r: Refusal) {
+fn say_short(rt: &HostRuntime, r: Refusal) {
     if lacks_seconds(r) {
-        console::say(b"unpack: SECONDS has not two bytes for each scene\n");
+        console::say(rt, b"unpack: SECONDS has not two bytes for each scene\n");
     }
 }
 
 // Prints a refusal, and says it in words: of the source, or of the seconds.
-pub fn tell(way: Way, one: &[u8], first: &[u8], two: &[u8], second: &[u8], r: Refusal) {
-    console::print_refusal(r);
+pub fn tell(
+    rt: &HostRuntime,
+    way: Way,
+    one: &[u8],
+    first: &[u8],
+    two: &[u8],
+    second: &[u8],
+    r: Refusal,
+) {
+    console::print_refusal(rt, r);
     let found = in_files(r);
     match way {
-        Way::Pack => say_words(b"pack", one, first, true, two, second, found),
+        Way::Pack => say_words(rt, b"pack", one, first, true, two, second, found),
         Way::Unpack => {
-            say_words(b"unpack", one, first, false, two, second, found);
-            say_short(r);
+            say_words(rt, b"unpack", one, first, false, two, second, found);
+            say_short(rt, r);
         }
-        Way::Import => say_words(b"import", one, first, true, two, second, found),
+        Way::Import => say_words(rt, b"import", one, first, true, two, second, found),
     }
 }

@@ -1,6 +1,6 @@
 // From packed sheet and seconds to text; from the text of an automaton to packed sheet.
 ghost use Rattle.std.specs.Prelude.{◌≡◌, ◌≤◌, length};
-ghost use Rattle.io.specs.Counts.{IsPrefixLen};
+ghost use Rattle.console.specs.Files.{IsPrefixLen};
 ghost use Rattle.conversion.specs.Forms.{level_of_value, Unpacks, Within};
 
 use crate::telling::tell;
@@ -42,61 +42,91 @@ fn letters(sheet: &[u8]) -> usize {
 }
 
 // Says so where the file of seconds, if one is named, has not two bytes for each letter of the sheet.
-fn say_length(sheet: &[u8], name: &[u8], seconds: &[u8]) {
+fn say_length(rt: &HostRuntime, sheet: &[u8], name: &[u8], seconds: &[u8]) {
     if name.len() == 0 {
         return;
     }
     if seconds.len() / 2 != letters(sheet) || seconds.len() % 2 != 0 {
-        console::say(b"unpack: SECONDS has not two bytes for each scene\n");
+        console::say(rt, b"unpack: SECONDS has not two bytes for each scene\n");
     }
 }
 
 // Saves a text. Of one that is longer than `pack` takes this is said, and it does not take the place of its own sheet.
-fn save_long(source: &[u8], target: &[u8], text: &[u8]) {
+fn save_long(rt: &HostRuntime, source: &[u8], target: &[u8], text: &[u8]) {
     if text.len() <= PACKABLE {
-        saving::save(target, text);
+        saving::save(rt, target, text);
         return;
     }
-    console::say(b"unpack: the text is longer than the 65,536 bytes that pack takes\n");
-    if saving::one_file(source, target) {
-        console::say(b"unpack: SHEET and TEXT are one file, nothing is made\n");
+    console::say(
+        rt,
+        b"unpack: the text is longer than the 65,536 bytes that pack takes\n",
+    );
+    if saving::one_file(rt, source, target) {
+        console::say(
+            rt,
+            b"unpack: SHEET and TEXT are one file, nothing is made\n",
+        );
         return;
     }
-    saving::save(target, text);
+    saving::save(rt, target, text);
 }
 
 // Saves a text, but not in the place of its own seconds, of which it has no others than the sheet's scenes have.
-fn save_timed(one: &[u8], first: &[u8], two: &[u8], second: &[u8], target: &[u8], text: &[u8]) {
-    if two.len() != 0 && saving::one_file(two, target) {
-        console::say(b"unpack: TEXT and SECONDS are one file, nothing is made\n");
+fn save_timed(
+    rt: &HostRuntime,
+    one: &[u8],
+    first: &[u8],
+    two: &[u8],
+    second: &[u8],
+    target: &[u8],
+    text: &[u8],
+) {
+    if two.len() != 0 && saving::one_file(rt, two, target) {
+        console::say(
+            rt,
+            b"unpack: TEXT and SECONDS are one file, nothing is made\n",
+        );
         return;
     }
-    say_length(first, two, second);
-    save_long(one, target, text);
+    say_length(rt, first, two, second);
+    save_long(rt, one, target, text);
 }
 
 // Saves the sheet of a drawn automaton, but not in its place: no program makes the drawing of a sheet.
-fn save_drawn(source: &[u8], target: &[u8], sheet: &[u8]) {
-    if saving::one_file(source, target) {
-        console::say(b"import: TEXT and SHEET are one file, nothing is made\n");
+fn save_drawn(rt: &HostRuntime, source: &[u8], target: &[u8], sheet: &[u8]) {
+    if saving::one_file(rt, source, target) {
+        console::say(
+            rt,
+            b"import: TEXT and SHEET are one file, nothing is made\n",
+        );
         return;
     }
-    saving::save(target, sheet);
+    saving::save(rt, target, sheet);
 }
 
 // Saves what was made of two files.
-fn keep(way: Way, one: &[u8], first: &[u8], two: &[u8], second: &[u8], target: &[u8], made: &[u8]) {
+fn keep(
+    rt: &HostRuntime,
+    way: Way,
+    one: &[u8],
+    first: &[u8],
+    two: &[u8],
+    second: &[u8],
+    target: &[u8],
+    made: &[u8],
+) {
     match way {
         Way::Pack => {
-            saving::save(target, made);
+            saving::save(rt, target, made);
         }
-        Way::Import => save_drawn(one, target, made),
-        Way::Unpack => save_timed(one, first, two, second, target, made),
+        Way::Import => save_drawn(rt, one, target, made),
+        Way::Unpack => save_timed(rt, one, first, two, second, target, made),
     }
 }
 
 // Saves what was filled, or tells the refusal.
 fn save_filled(
+    rt: &HostRuntime,
     answer: Written,
     out: &[u8],
     target: &[u8],
@@ -109,44 +139,79 @@ fn save_filled(
     requires { Within answer out.now }
 {
     match answer {
-        Written::Refused(r) => tell(way, one, first, two, second, r),
-        Written::Filled(n) => keep(way, one, first, two, second, target, &out[..n]),
+        Written::Refused(r) => tell(rt, way, one, first, two, second, r),
+        Written::Filled(n) => keep(rt, way, one, first, two, second, target, &out[..n]),
     }
 }
 
 // Saves the text of a packed sheet and of the bytes of its seconds.
-fn save_text(one: &[u8], sheet: &[u8], named: bool, two: &[u8], seconds: &[u8], target: &[u8])
+fn save_text(
+    rt: &HostRuntime,
+    one: &[u8],
+    sheet: &[u8],
+    named: bool,
+    two: &[u8],
+    seconds: &[u8],
+    target: &[u8],
+)
     requires { length seconds.now ≤ 65536 }
 {
     let mut out = [0u8; LONGEST];
     let answer = unpack(sheet, named, seconds, &mut out);
-    save_filled(answer, &out, target, Way::Unpack, one, sheet, two, seconds);
+    save_filled(
+        rt,
+        answer,
+        &out,
+        target,
+        Way::Unpack,
+        one,
+        sheet,
+        two,
+        seconds,
+    );
 }
 
 // Reads the seconds, none where no file is named.
-fn load_seconds(named: bool, name: &[u8], bytes: &mut [u8]) -> usize
+fn load_seconds(rt: &HostRuntime, named: bool, name: &[u8], bytes: &mut [u8]) -> usize
     ensures { IsPrefixLen result bytes.new }
 {
     if named {
-        return console::load(name, bytes);
+        return console::load(rt, name, bytes);
     }
     0
 }
 
 // The same with the seconds in a file, one that is not named being read as empty.
-pub fn save_unpacked(source: &[u8], sheet: &[u8], target: &[u8], named: bool, third: &[u8]) {
+pub fn save_unpacked(
+    rt: &HostRuntime,
+    source: &[u8],
+    sheet: &[u8],
+    target: &[u8],
+    named: bool,
+    third: &[u8],
+) {
     let mut seconds = [0u8; console::ROOM];
-    let n = load_seconds(named, third, &mut seconds);
+    let n = load_seconds(rt, named, third, &mut seconds);
     let length = console::check_length(n, Part::Second);
     match length {
-        Length::Refused(r) => tell(Way::Unpack, source, sheet, third, &seconds[..n], r),
-        Length::Good => save_text(source, sheet, named, third, &seconds[..n], target),
+        Length::Refused(r) => tell(rt, Way::Unpack, source, sheet, third, &seconds[..n], r),
+        Length::Good => save_text(rt, source, sheet, named, third, &seconds[..n], target),
     }
 }
 
 // Saves the packed sheet of an automaton's text.
-pub fn save_imported(source: &[u8], text: &[u8], target: &[u8]) {
+pub fn save_imported(rt: &HostRuntime, source: &[u8], text: &[u8], target: &[u8]) {
     let mut out = [0u8; SHEET];
     let answer = buchi_import::import(text, &mut out);
-    save_filled(answer, &out, target, Way::Import, source, text, b"", b"");
+    save_filled(
+        rt,
+        answer,
+        &out,
+        target,
+        Way::Import,
+        source,
+        text,
+        b"",
+        b"",
+    );
 }

@@ -2,8 +2,9 @@
 // file SHEET, or prints the refusal.
 #![tactic(auto)]
 
-fn main() {
+fn main(rt: HostRuntime) {
     conversion::run(
+        &rt,
         conversion::Way::Import,
         b"usage: import TEXT SHEET
 reads: TEXT, the text of a drawn automaton, a deterministic Buechi automaton

@@ -2,8 +2,9 @@
 // file SECONDS, or prints the refusal.
 #![tactic(auto)]
 
-fn main() {
+fn main(rt: HostRuntime) {
     conversion::run(
+        &rt,
         conversion::Way::Pack,
         b"usage: pack TEXT SHEET [SECONDS]
 reads: TEXT, the text of a sheet, of level three or four

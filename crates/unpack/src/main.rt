@@ -2,8 +2,9 @@
 // or prints the refusal.
 #![tactic(auto)]
 
-fn main() {
+fn main(rt: HostRuntime) {
     conversion::run(
+        &rt,
         conversion::Way::Unpack,
         b"usage: unpack SHEET TEXT [SECONDS]
 reads: SHEET, a packed sheet, and SECONDS, the seconds of its scenes
