@@ -2,8 +2,7 @@
 use mathlib.Core.Path.{ap, sym}
 use lib.Seq.{length-take-le}
 use Rattle.slices.specs.Refusals.{written_says}
-use borrow.Author.Rules.{rules}
 use Rattle.conversion.proofs.unpacking.save_filled.Goals as goal
 
 pub slice_bounds-keep-end : goal.slice_bounds-keep-end
-slice_bounds-keep-end c = sym (length-take-le _ _ (c.requires _ (ap written_says c.answer-in-Filled-1.given.1)))
+slice_bounds-keep-end c = sym (length-take-le _ _ (c.requires _ (ap written_says c.in-Filled.is)))
