@@ -1,6 +1,6 @@
 -- What the numbers of a cursor and of a pass come to: a part that is opening or loop is that word and any other has no letters, the rest
 -- that is told is the rest and lies where it does, and what a pass tells it is taken up from. Assumes nothing.
-use mathlib.Core.Path.{◌≡◌, refl, ap, sym, ◌∙◌}
+use mathlib.Core.Path.{◌≡◌, refl, ap}
 use mathlib.Core.Bool.{Bool, true, false, cond}
 use mathlib.Core.List.{List, [], ◌∷◌}
 use Prim.Native.Nat.{ℕ, ◌+◌}

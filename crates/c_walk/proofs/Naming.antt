@@ -9,7 +9,6 @@ use lib.ListN.{length, drop, length-drop}
 use borrow.Author.Tests.{eq-eqb, ne_eqb, leb-false}
 use Rattle.slices.specs.declared.Part.TheVariants as part
 use Rattle.slices.specs.Refusals.{Fault, ◌then◌, when}
-use Rattle.cursor.specs.declared.Phase.{Phase}
 use Rattle.cursor.specs.declared.Phase.TheVariants.{Prefix, Period}
 use Rattle.cursor.specs.declared.Cursor.{Cursor}
 use Rattle.cursor.specs.Walking.{named, if_sound, rest_of}
