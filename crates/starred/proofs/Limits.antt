@@ -1,7 +1,7 @@
 -- The largest counts are read: 32 letters, 32 states, 32 progress states. Apart from packed's other rows, since they take
 -- longer to compute.
 use mathlib.Core.Path.{◌≡◌, refl}
-use mathlib.Core.List.{List, [], ◌∷◌, ◌++◌}
+use mathlib.Core.List.{List, ◌∷◌, ◌++◌}
 use Prim.Native.Nat.{ℕ, ◌+◌, ◌*◌}
 use lib.ListN.{replicate}
 use Rattle.slices.specs.declared.Part.TheVariants.{First}
