@@ -46,8 +46,8 @@ pub fn compare(
     work: &mut [u64],
 ) -> Outcome
     ensures { Compared first.now second.now
-        (record { opening = opening.entry.now; period = period.old; work = work.old })
-        (record { opening = opening.exit.now; period = period.new; work = work.new })
+        (record { opening = opening.old; period = period.old; work = work.old })
+        (record { opening = opening.new; period = period.new; work = work.new })
         result }
 {
     let pair = pairing::check(first, second);
@@ -68,8 +68,8 @@ fn search_cells(
 ) -> Outcome
     requires { Alike first.now second.now × (sizes ≡ pairs.sizes_of first.now second.now) }
     ensures { Searched (comparison (decode first.now) (decode second.now)) (compare_cells first.now second.now)
-        (record { opening = opening.entry.now; period = period.old; work = work.old })
-        (record { opening = opening.exit.now; period = period.new; work = work.new })
+        (record { opening = opening.old; period = period.old; work = work.old })
+        (record { opening = opening.new; period = period.new; work = work.new })
         result }
 {
     let cells = sizes.pairs + sizes.pairs * sizes.widest;
@@ -92,8 +92,8 @@ fn accepted_lasso(
 ) -> Outcome
     requires { Valid sheet.now × (sizes ≡ sizes_of sheet.now) }
     ensures { Searched (emptiness (decode sheet.now)) (empty_cells sheet.now)
-        (record { opening = opening.entry.now; period = period.old; work = work.old })
-        (record { opening = opening.exit.now; period = period.new; work = work.new })
+        (record { opening = opening.old; period = period.old; work = work.old })
+        (record { opening = opening.new; period = period.new; work = work.new })
         result }
 {
     let letters = sizes.letters;
@@ -115,8 +115,8 @@ fn accepted_lasso(
 // Whether the sheet accepts no lasso at all. Otherwise the first that is normalized and accepted is written.
 pub fn emptiness(sheet: &[u8], opening: &mut [u8], period: &mut [u8], work: &mut [u64]) -> Outcome
     ensures { Emptied sheet.now
-        (record { opening = opening.entry.now; period = period.old; work = work.old })
-        (record { opening = opening.exit.now; period = period.new; work = work.new })
+        (record { opening = opening.old; period = period.old; work = work.old })
+        (record { opening = opening.new; period = period.new; work = work.new })
         result }
 {
     let check = packed::check(sheet, Part::First);

@@ -32,7 +32,7 @@ pub fn placed(
     period: &[u8],
 ) -> Outcome
     requires { Alike first.now second.now × LiesIn (letter_count first.now) (record { opening = opening.now; period = period.now }) found }
-    ensures { result ≡ placed_of (decode first.now) (decode second.now) (record { opening = opening.entry.now; period = period.now }) found }
+    ensures { result ≡ placed_of (decode first.now) (decode second.now) (record { opening = opening.now; period = period.now }) found }
 {
     match found {
         Reported::Refused(r) => Outcome::Refused(r),

@@ -1,0 +1,12 @@
+-- `inclusion::compare` meets its contract: the sheets, then the cells, then the search. Assumes nothing.
+use Rattle.slices.proofs.Refusals.{was-given}
+use Rattle.pairing.proofs.Within.{sound-alike}
+use Rattle.inclusion.proofs.Comparing.{searched-compared}
+use Rattle.inclusion.proofs.compare.Goals as goal
+
+pub search_cells-requires : goal.search_cells-requires
+search_cells-requires c = let z = was-given _ _ c.in-Paired.ensures in (sound-alike _ _ z.0, z.1)
+
+pub returns-in-Paired : goal.returns-in-Paired
+returns-in-Paired c =
+    let z = was-given _ _ c.in-Paired.ensures in searched-compared (sound-alike _ _ z.0) _ z.0 c.search_cells.ensures
