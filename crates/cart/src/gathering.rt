@@ -40,22 +40,34 @@ fn add_named(
 }
 
 // One show more: the file that an argument names.
-fn add_file(place: usize, gathered: Gathering, cart: &mut [u8], said: &mut [u8]) -> Gathering
+fn add_file(
+    rt: &HostRuntime,
+    place: usize,
+    gathered: Gathering,
+    cart: &mut [u8],
+    said: &mut [u8],
+) -> Gathering
     requires { (length cart.old ≡ 524545) × (length said.old ≡ 4352) × (gathered.held.count < 64) ×
         Bounded gathered.held × (gathered.said ≤ 4352) ×
         Sourced cart.old said.old gathered.held gathered.said }
     ensures { (result.held.count ≡ gathered.held.count + 1) × Bounded result.held × (result.said ≤ 4352) ×
         Sourced cart.new said.new result.held result.said }
 {
-    let mut name = io::buffer();
-    let n = console::name_at(place, &mut name);
+    let mut name = [0u8; console::NAME];
+    let n = console::name_at(rt, place, &mut name);
     let mut text = [0u8; console::ROOM];
-    let m = console::load(&name[..n], &mut text);
+    let m = console::load(rt, &name[..n], &mut text);
     add_named(&name[..n], &text[..m], gathered, cart, said)
 }
 
 // So many shows.
-pub fn gather(end: usize, shows: usize, cart: &mut [u8], said: &mut [u8]) -> Gathering
+pub fn gather(
+    rt: &HostRuntime,
+    end: usize,
+    shows: usize,
+    cart: &mut [u8],
+    said: &mut [u8],
+) -> Gathering
     requires { (length cart.old ≡ 524545) × (length said.old ≡ 4352) × (shows ≤ 64) }
     ensures { (result.held.count ≡ shows) × Bounded result.held × (result.said ≤ 4352) ×
         Sourced cart.new said.new result.held result.said }
@@ -66,7 +78,7 @@ pub fn gather(end: usize, shows: usize, cart: &mut [u8], said: &mut [u8]) -> Gat
     };
     let mut i = 0;
     while i < shows {
-        gathered = add_file(show_place(i, end), gathered, cart, said);
+        gathered = add_file(rt, show_place(i, end), gathered, cart, said);
         i += 1;
     }
     gathered

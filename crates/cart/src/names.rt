@@ -4,19 +4,12 @@ ghost use Rattle.std.specs.Prelude.{◌≤◌};
 // The most shows that a cart has.
 const SHOWS: usize = 64;
 
-// Whether an argument is `--`.
-fn is_end(i: usize) -> bool {
-    let mut word = io::buffer();
-    let n = os::arg(i, &mut word);
-    n == 2 && word[0] == b'-' && word[1] == b'-'
-}
-
 // The place of the first `--`, or of the end of the arguments.
-pub fn end_place() -> usize {
-    let count = os::arg_count();
+pub fn end_place(rt: &HostRuntime) -> usize {
+    let count = console::arg_count(rt);
     let mut i = 1;
     while i < count {
-        if is_end(i) {
+        if console::is_end(rt, i) {
             return i;
         }
         i += 1;
