@@ -1,13 +1,12 @@
 -- What is said on standard error, out of the texts that it is stored by. Assumes nothing.
-use mathlib.Core.Path.{◌≡◌, refl, ap, sym, ◌∙◌}
+use mathlib.Core.Path.{◌≡◌, ap, sym, ◌∙◌}
 use mathlib.Core.Bool.{Bool, true, false, cond}
-use mathlib.Core.List.{List, [], ◌++◌}
+use mathlib.Core.List.{List, []}
 use Prim.Native.Nat.{ℕ, ◌+◌, ◌≤◌, ◌<◌}
 use native.Mathlib.Omega.{arith}
 use lib.ListN.{length}
 use Rattle.slices.specs.declared.Refusal.{Refusal}
 use Rattle.slices.specs.Texts.{bytes}
-use Rattle.slices.specs.Refusals.{Result}
 use Rattle.fdfa.specs.Acceptance.{Verdict}
 use Rattle.numbers.specs.Digits.{field}
 use Rattle.numbers.specs.Storing.{Stored}

@@ -11,7 +11,15 @@ mod saying; // saying.rt: why, in words
 mod text; // text.rt: what is printed
 
 // Prints what is judged of two files, which are named, and says it.
-fn answer(rt: &HostRuntime, any: bool, explain: bool, one: &[u8], sheet: &[u8], two: &[u8], show: &[u8])
+fn answer(
+    rt: &HostRuntime,
+    any: bool,
+    explain: bool,
+    one: &[u8],
+    sheet: &[u8],
+    two: &[u8],
+    show: &[u8],
+)
     requires { (length one.now ≤ 4096) × (length two.now ≤ 4096) }
 {
     let mut text = [0u8; text::ROOM];
@@ -40,7 +48,10 @@ fn usage(rt: &HostRuntime) {
         rt,
         b"usage: verdict [--explain] [--] [SHEET SHOW]: reads a sheet, packed, as text or drawn, ",
     );
-    console::say(rt, b"and a show's text (without names: first.sheet, packed, and show.txt)\n");
+    console::say(
+        rt,
+        b"and a show's text (without names: first.sheet, packed, and show.txt)\n",
+    );
     console::say(
         rt,
         b"prints accepted or rejected, the turns i and j of the loop, the place and the loop place ",

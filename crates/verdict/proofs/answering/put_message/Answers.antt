@@ -3,7 +3,6 @@ use mathlib.Core.Path.{ap, ◌∙◌}
 use Rattle.sheet_forms.specs.Forms.{is_text_of}
 use Rattle.verdict.specs.Said.{sheet_file, show_file}
 use Rattle.verdict.proofs.Spoken.{said-given, said-refused}
-use borrow.Author.Rules.{rules}
 use Rattle.verdict.proofs.answering.put_message.Goals as goal
 
 pub returns-in-Given : goal.returns-in-Given

@@ -1,6 +1,5 @@
 -- `verdict::saying::put_judged` meets its contract. Assumes nothing.
 use Rattle.verdict.proofs.Spoken.{unasked-shown, asked-shown}
-use borrow.Author.Rules.{rules}
 use Rattle.verdict.proofs.saying.put_judged.Goals as goal
 
 pub returns-then-not-explain : goal.returns-then-not-explain

@@ -2,7 +2,6 @@
 use mathlib.Core.Bool.{true, false}
 use native.Mathlib.Omega.{arith}
 use Rattle.verdict.proofs.Spoken.{start-stored}
-use borrow.Author.Rules.{rules}
 use Rattle.verdict.proofs.saying.put_start.Goals as goal
 
 pub returns-then-accepted : goal.returns-then-accepted

@@ -2,7 +2,6 @@
 use mathlib.Core.Path.{ap, sym}
 use Rattle.numbers.proofs.Stores.{stored-as}
 use Rattle.verdict.specs.Text.{word}
-use borrow.Author.Rules.{rules}
 use Rattle.verdict.proofs.text.put_word.Goals as goal
 
 pub returns-then-accepted : goal.returns-then-accepted

@@ -1,6 +1,5 @@
 -- `verdict::text::verdict_text` meets its contract. Assumes nothing.
 use Rattle.verdict.proofs.Blocks.{given-shown, refused-shown}
-use borrow.Author.Rules.{rules}
 use Rattle.verdict.proofs.text.verdict_text.Goals as goal
 
 pub returns-in-Given : goal.returns-in-Given
