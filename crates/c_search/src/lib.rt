@@ -1,5 +1,5 @@
-// For C: the comparison of two sheets and the test of emptiness, in lent cells of work. Each call returns 0, and
-// changes nothing, where the answer slice is too short; else 1.
+// For C, by c_search_c and players: the comparison of two sheets and the test of emptiness, in lent cells of work. Each call returns 0,
+// and changes nothing, where the answer slice is too short; else 1.
 #![tactic(auto)]
 
 ghost use Rattle.std.specs.Prelude.{◌≡◌, [], ◌∷◌};
@@ -57,8 +57,7 @@ fn search_numbers(outcome: Outcome) -> [u64; 9]
 }
 
 // The comparison of two sheets; the first counterexample goes to `prefix` and `period`.
-#[unsafe(no_mangle)]
-pub extern "C" fn fdfa_compare_in(
+pub fn fdfa_compare_in(
     first: &[u8],
     second: &[u8],
     prefix: &mut [u8],
@@ -68,13 +67,13 @@ pub extern "C" fn fdfa_compare_in(
 ) -> u32
     ensures { ComparedTold first.now second.now
         (record {
-          prefix = prefix.entry.now;
+          prefix = prefix.old;
           period = period.old;
           work = work.old;
           answer = answer.old;
         })
         (record {
-          prefix = prefix.exit.now;
+          prefix = prefix.new;
           period = period.new;
           work = work.new;
           answer = answer.new;
@@ -90,8 +89,7 @@ pub extern "C" fn fdfa_compare_in(
 }
 
 // The test of emptiness; the first accepted lasso goes to `prefix` and `period`.
-#[unsafe(no_mangle)]
-pub extern "C" fn fdfa_emptiness(
+pub fn fdfa_emptiness(
     sheet: &[u8],
     prefix: &mut [u8],
     period: &mut [u8],
@@ -100,13 +98,13 @@ pub extern "C" fn fdfa_emptiness(
 ) -> u32
     ensures { EmptiedTold sheet.now
         (record {
-          prefix = prefix.entry.now;
+          prefix = prefix.old;
           period = period.old;
           work = work.old;
           answer = answer.old;
         })
         (record {
-          prefix = prefix.exit.now;
+          prefix = prefix.new;
           period = period.new;
           work = work.new;
           answer = answer.new;
