@@ -2,7 +2,7 @@
 use mathlib.Core.Path.{◌≡◌, refl, ap, sym, subst, ◌∙◌}
 use mathlib.Core.Bool.{Bool}
 use mathlib.Core.List.{List}
-use Prim.Native.Nat.{ℕ, ◌≤◌}
+use Prim.Native.Nat.{ℕ}
 use lib.Dec.{ltb}
 use lib.ListN.{length}
 use Rattle.slices.specs.declared.Part.TheVariants.{Opening, Loop}
@@ -11,10 +11,9 @@ use Rattle.slices.specs.Refusals.{Fault, sound, fault, ◌then◌, when, Result,
 use Rattle.fdfa.specs.Enumeration.{Witness, absent, lasso}
 use Rattle.fdfa.specs.Inclusion as model
 use Rattle.lasso_search.specs.Lassos.{Lent, room_fault}
-use Rattle.inclusion.specs.declared.Comparison.{Comparison}
 use Rattle.inclusion.specs.declared.Outcome.{Outcome}
 use Rattle.inclusion.specs.declared.Outcome.TheVariants.{Absent, Found, Refused}
-use Rattle.inclusion.specs.Outcomes.{answer_of, outcome_says}
+use Rattle.inclusion.specs.Outcomes.{answer_of}
 use Rattle.inclusion.specs.Calls as calls
 use Rattle.inclusion.specs.Calls.{Slices, call_fault, compare_start, Compared}
 use Rattle.inclusion.proofs.Settling.{settled-for, settled-given}

@@ -2,7 +2,6 @@
 use mathlib.Core.Path.{◌≡◌}
 use Prim.Native.Nat.{ℕ}
 use lib.ListN.{length, length-replicate}
-use Rattle.inclusion.specs.Calls.{Slices}
 use Rattle.compare_files.specs.Decided.{room}
 
 pub rooms : (length room.opening ≡ 4096) × (length room.period ≡ 4096) × (length room.work ≡ 8192)
