@@ -1,11 +1,10 @@
 -- What is printed and said for an answer of the code, with what was written to the slices, is what is printed and said for what was decided.
 -- Assumes nothing.
-use mathlib.Core.Path.{◌≡◌, refl, ap, sym, ◌∙◌}
-use mathlib.Core.Bool.{Bool, true, false, cond}
+use mathlib.Core.Path.{◌≡◌, ap, sym, ◌∙◌}
+use mathlib.Core.Bool.{Bool, cond}
 use mathlib.Core.List.{List, [], ◌++◌}
 use Prim.Native.Nat.{ℕ}
-use lib.ListN.{length, take}
-use Rattle.slices.specs.declared.Refusal.{Refusal}
+use lib.ListN.{length}
 use Rattle.slices.specs.Texts.{bytes}
 use Rattle.slices.specs.Refusals.{Result, given, refused}
 use Rattle.slices.proofs.Refusals.{never-given, given-was, refused-was}
@@ -14,7 +13,6 @@ use Rattle.lasso_text.specs.Text.{lasso_text_of}
 use Rattle.lasso_search.specs.Lassos.{prefix_of, period_of}
 use Rattle.inclusion.specs.declared.Outcome.{Outcome}
 use Rattle.inclusion.specs.declared.Outcome.TheVariants.{Absent, Found, Refused}
-use Rattle.inclusion.specs.Outcomes.{Answer, numbers_of, is_absent, answer_of}
 use Rattle.console.specs.Printed.{refusal_text_of}
 use Rattle.wording.specs.Words.{File, refusal_words_of}
 use Rattle.compare_files.specs.Decided.{Decides}

@@ -1,6 +1,6 @@
 -- The blocks of what the comparison prints, out of the texts that they are stored by. Assumes nothing.
 use mathlib.Core.Path.{◌≡◌, ap, sym, subst}
-use mathlib.Core.List.{List, ◌++◌}
+use mathlib.Core.List.{List}
 use Prim.Native.Nat.{ℕ, ◌+◌, ◌≤◌, ◌<◌}
 use native.Mathlib.Omega.{arith}
 use lib.ListN.{length, take}

@@ -12,7 +12,15 @@ mod saying; // saying.rt: what is said on standard error
 mod text; // text.rt: what is printed, block by block
 
 // Prints what is decided of two files, which are named, and says it.
-fn answer(any: bool, explain: bool, one: &[u8], first: &[u8], two: &[u8], second: &[u8])
+fn answer(
+    rt: &HostRuntime,
+    any: bool,
+    explain: bool,
+    one: &[u8],
+    first: &[u8],
+    two: &[u8],
+    second: &[u8],
+)
     requires { (length one.now ≤ 4096) × (length two.now ≤ 4096) }
 {
     let mut text = [0u8; text::ROOM];
@@ -20,58 +28,61 @@ fn answer(any: bool, explain: bool, one: &[u8], first: &[u8], two: &[u8], second
     let printed = put_answer(any, explain, one, first, two, second, &mut text, &mut said);
     let n = printed.text;
     let m = printed.said;
-    console::print(&text[..n]);
-    console::say(&said[..m]);
+    console::print(rt, &text[..n]);
+    console::say(rt, &said[..m]);
 }
 
 // Compares the files with these names.
-fn compare(any: bool, explain: bool, one: &[u8], two: &[u8])
+fn compare(rt: &HostRuntime, any: bool, explain: bool, one: &[u8], two: &[u8])
     requires { (length one.now ≤ 4096) × (length two.now ≤ 4096) }
 {
     let mut first = [0u8; console::ROOM];
     let mut second = [0u8; console::ROOM];
-    let n = console::load(one, &mut first);
-    let m = console::load(two, &mut second);
-    answer(any, explain, one, &first[..n], two, &second[..m]);
+    let n = console::load(rt, one, &mut first);
+    let m = console::load(rt, two, &mut second);
+    answer(rt, any, explain, one, &first[..n], two, &second[..m]);
 }
 
 // Three lines: what is read, what is printed, an example.
-fn usage() {
+fn usage(rt: &HostRuntime) {
     console::say(
+        rt,
         b"usage: compare [--explain] [--] [FIRST SECOND]: reads two sheets, packed, as text or drawn; ",
     );
     console::say(
+        rt,
         b"FIRST is the revised one (without names: first.sheet and second.sheet, packed)\n",
     );
     console::say(
+        rt,
         b"prints contained, or missing and the first show that closes in both, is accepted by FIRST and ",
     );
-    console::say(b"rejected by SECOND; --explain says it in words\n");
-    console::say(b"example: compare revised.txt old.txt\n");
+    console::say(rt, b"rejected by SECOND; --explain says it in words\n");
+    console::say(rt, b"example: compare revised.txt old.txt\n");
 }
 
 // Compares the files that two arguments name.
-fn compare_named(explain: bool, i: usize, j: usize) {
-    let mut one = io::buffer();
-    let n = console::name_at(i, &mut one);
-    let mut two = io::buffer();
-    let m = console::name_at(j, &mut two);
-    compare(true, explain, &one[..n], &two[..m]);
+fn compare_named(rt: &HostRuntime, explain: bool, i: usize, j: usize) {
+    let mut one = [0u8; console::NAME];
+    let n = console::name_at(rt, i, &mut one);
+    let mut two = [0u8; console::NAME];
+    let m = console::name_at(rt, j, &mut two);
+    compare(rt, true, explain, &one[..n], &two[..m]);
 }
 
-fn main() {
-    let asked = console::arguments();
+fn main(rt: HostRuntime) {
+    let asked = console::arguments(&rt);
     if asked.usage {
-        usage();
+        usage(&rt);
         return;
     }
     if asked.names == 0 {
-        compare(false, asked.explain, b"first.sheet", b"second.sheet");
+        compare(&rt, false, asked.explain, b"first.sheet", b"second.sheet");
         return;
     }
     if asked.names == 2 {
-        compare_named(asked.explain, asked.first, asked.second);
+        compare_named(&rt, asked.explain, asked.first, asked.second);
         return;
     }
-    usage();
+    usage(&rt);
 }
