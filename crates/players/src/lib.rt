@@ -67,8 +67,8 @@ pub extern "C" fn fdfa_compare(
     answer: &mut [u8],
 ) -> u32
     ensures { ComparisonTold first.now second.now
-        (record { prefix = prefix.entry.now; period = period.old; answer = answer.old })
-        (record { prefix = prefix.exit.now; period = period.new; answer = answer.new })
+        (record { prefix = prefix.old; period = period.old; answer = answer.old })
+        (record { prefix = prefix.new; period = period.new; answer = answer.new })
         result }
 {
     let mut work = [0u64; CELLS];
