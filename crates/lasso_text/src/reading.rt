@@ -74,7 +74,8 @@ pub fn read(text: &[u8], part: Part, opening: &mut [u8], period: &mut [u8]) -> L
             if opening.len() < m {
                 return Lengths::Refused(refuse(21, Part::Opening, m));
             }
-            if period.len() < n {
+            let short = period.len() < n;
+            if short {
                 return Lengths::Refused(refuse(21, Part::Loop, n));
             }
             read_words(text, opening, period, part)

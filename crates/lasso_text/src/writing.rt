@@ -68,7 +68,8 @@ pub fn write(prefix: &[u8], period: &[u8], out: &mut [u8]) -> Written
         Letters::Known => {
             let opened = measure(b"opening ", prefix, 11);
             let need = measure(b"loop ", period, opened);
-            if out.len() < need {
+            let short = out.len() < need;
+            if short {
                 return Written::Refused(refuse(21, Part::Out, need));
             }
             put_lasso(prefix, period, out, 0);

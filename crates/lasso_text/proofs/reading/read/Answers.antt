@@ -17,24 +17,24 @@ returns-then-opening-m c =
     let less : o < c.in-Filled.m = omega (arith, c.if-opening-m.true, ap length (none-back c.read_words-judged.new.opening c.args.opening.now c.read_words-judged.ensures.same_opening)) in
     lasso-refused (short-opening w.0 w.1 w.2 w.3 o p less ∙ ap fault (sym c.refuse.ensures)) (none-back c.read_words-judged.new.opening c.args.opening.now c.read_words-judged.ensures.same_opening) (none-back c.read_words-judged.new.period c.args.period.now c.read_words-judged.ensures.same_period)
 
-pub returns-then-period-n : goal.returns-then-period-n
-returns-then-period-n c =
+pub returns-then-short : goal.returns-then-short
+returns-then-short c =
     let w = (was-measured (words_of 32 c.args.part c.args.text.now) (sym c.read_words-judged.ensures.says ∙ ap lengths_say c.in-Filled.is)) in
     let o = length c.args.opening.now in
     let p = length c.args.period.now in
     let more : c.in-Filled.m ≤ o = omega (arith, c.if-opening-m.false, ap length (none-back c.read_words-judged.new.opening c.args.opening.now c.read_words-judged.ensures.same_opening)) in
-    let less : p < c.in-Filled.n = omega (arith, c.if-period-n.true, ap length (none-back c.read_words-judged.new.period c.args.period.now c.read_words-judged.ensures.same_period)) in
-    lasso-refused (short-period w.0 w.1 w.2 w.3 o p more less ∙ ap fault (sym c.refuse-then-period-n.ensures)) (none-back c.read_words-judged.new.opening c.args.opening.now c.read_words-judged.ensures.same_opening) (none-back c.read_words-judged.new.period c.args.period.now c.read_words-judged.ensures.same_period)
+    let less : p < c.in-Filled.n = omega (arith, c.if-short.true, ap length (none-back c.read_words-judged.new.period c.args.period.now c.read_words-judged.ensures.same_period)) in
+    lasso-refused (short-period w.0 w.1 w.2 w.3 o p more less ∙ ap fault (sym c.refuse-then-short.ensures)) (none-back c.read_words-judged.new.opening c.args.opening.now c.read_words-judged.ensures.same_opening) (none-back c.read_words-judged.new.period c.args.period.now c.read_words-judged.ensures.same_period)
 
 pub returns-in-Refused : goal.returns-in-Refused
 returns-in-Refused c =
     lasso-refused (text-refused _ _ (unmeasured (words_of 32 c.args.part c.args.text.now) (sym c.read_words-judged.ensures.says ∙ ap lengths_say c.in-Refused.is))) (none-back c.read_words-judged.new.opening c.args.opening.now c.read_words-judged.ensures.same_opening) (none-back c.read_words-judged.new.period c.args.period.now c.read_words-judged.ensures.same_period)
 
-pub returns-else-period-n : goal.returns-else-period-n
-returns-else-period-n c =
+pub returns-else-short : goal.returns-else-short
+returns-else-short c =
     let w = (was-measured (words_of 32 c.args.part c.args.text.now) (sym c.read_words-judged.ensures.says ∙ ap lengths_say c.in-Filled.is)) in
     let o = length c.args.opening.now in
     let p = length c.args.period.now in
     let m : c.in-Filled.m ≤ o = omega (arith, c.if-opening-m.false, ap length (none-back c.read_words-judged.new.opening c.args.opening.now c.read_words-judged.ensures.same_opening)) in
-    let n : c.in-Filled.n ≤ p = omega (arith, c.if-period-n.false, ap length (none-back c.read_words-judged.new.period c.args.period.now c.read_words-judged.ensures.same_period)) in
+    let n : c.in-Filled.n ≤ p = omega (arith, c.if-short.false, ap length (none-back c.read_words-judged.new.period c.args.period.now c.read_words-judged.ensures.same_period)) in
     lasso-filled w.0 w.1 (omega (arith, w.2)) (omega (arith, w.3)) (enough w.0 w.1 w.2 w.3 o p m n) (none-back c.read_words-judged.new.opening c.args.opening.now c.read_words-judged.ensures.same_opening) (none-back c.read_words-judged.new.period c.args.period.now c.read_words-judged.ensures.same_period) c.read_words.ensures

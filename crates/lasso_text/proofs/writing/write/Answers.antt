@@ -41,23 +41,23 @@ whole u v e d =
     ∙ (ap (λ (n : ℕ). capped (n + length (letter_lines period_name v))) e
     ∙ (capped-sum (11 + length (letter_lines prefix_name u)) (length (letter_lines period_name v)) ∙ ap capped (sym (text-long u v))))
 
-pub returns-then-out-need : goal.returns-then-out-need
-returns-then-out-need c =
+pub returns-then-short : goal.returns-then-short
+returns-then-short c =
     fill-refused _ _
-    (too_short_lem c.args.prefix.now c.args.period.now (omega arith) (sym c.check_lasso-letters.ensures ∙ ap letters_say c.in-Known.is) (whole c.args.prefix.now c.args.period.now c.measure-opened.ensures c.measure-need.ensures) c.if-out-need.true ∙ ap fault (sym c.refuse.ensures))
+    (too_short_lem c.args.prefix.now c.args.period.now (omega arith) (sym c.check_lasso-letters.ensures ∙ ap letters_say c.in-Known.is) (whole c.args.prefix.now c.args.period.now c.measure-opened.ensures c.measure-need.ensures) c.if-short.true ∙ ap fault (sym c.refuse.ensures))
 
 pub put_lasso-requires : goal.put_lasso-requires
 put_lasso-requires c =
-    omega (arith, c.if-out-need.false, long c.args.prefix.now c.args.period.now {room = length c.args.out.now} (omega arith) (sym c.check_lasso-letters.ensures ∙ ap letters_say c.in-Known.is) (whole c.args.prefix.now c.args.period.now c.measure-opened.ensures c.measure-need.ensures) (omega (arith, c.if-out-need.false)))
+    omega (arith, c.if-short.false, long c.args.prefix.now c.args.period.now {room = length c.args.out.now} (omega arith) (sym c.check_lasso-letters.ensures ∙ ap letters_say c.in-Known.is) (whole c.args.prefix.now c.args.period.now c.measure-opened.ensures c.measure-need.ensures) (omega (arith, c.if-short.false)))
 
 pub returns-in-Refused : goal.returns-in-Refused
 returns-in-Refused c = fill-refused _ _ (failed _ (sym c.check_lasso-letters.ensures ∙ ap letters_say c.in-Refused.is))
 
-pub returns-else-out-need : goal.returns-else-out-need
-returns-else-out-need c =
+pub returns-else-short : goal.returns-else-short
+returns-else-short c =
     let u = c.args.prefix.now in
     let v = c.args.period.now in
     let few : length c.args.out.now < 9223372036854775808 = omega arith in
-    let fits : c.measure-need.result ≤ length c.args.out.now = omega (arith, c.if-out-need.false) in
+    let fits : c.measure-need.result ≤ length c.args.out.now = omega (arith, c.if-short.false) in
     let n = long u v few (sym c.check_lasso-letters.ensures ∙ ap letters_say c.in-Known.is) (whole c.args.prefix.now c.args.period.now c.measure-opened.ensures c.measure-need.ensures) fits in
     fill-given (lasso_text_of u v) (enough u v few (sym c.check_lasso-letters.ensures ∙ ap letters_say c.in-Known.is) (whole c.args.prefix.now c.args.period.now c.measure-opened.ensures c.measure-need.ensures) fits) n (stored-written c.put_lasso.ensures (omega (arith, n, fits)))
