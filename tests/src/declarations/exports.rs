@@ -10,8 +10,8 @@ pub fn functions(text: &str) -> Result<Vec<Function>, String> {
     for at in 0..tokens.len() {
         marked += (tokens[at] == "no_mangle") as usize;
         let ["extern", "\"C\"", "fn", name, ..] = tokens[at..] else { continue };
-        if !tokens[..at].ends_with(&["#", "[", "no_mangle", "]", "pub"]) {
-            return Err(format!("{name} is not `#[no_mangle] pub`: no other program can call it"));
+        if !tokens[..at].ends_with(&["#", "[", "unsafe", "(", "no_mangle", ")", "]", "pub"]) {
+            return Err(format!("{name} is not `#[unsafe(no_mangle)] pub`: no other program can call it"));
         }
         let (list, after) = parameters(after_lifetimes(&tokens[at + 4..]))?;
         let flat = list.into_iter().map(flat).collect::<Result<Vec<_>, _>>()?.concat();

@@ -5,20 +5,20 @@ use crate::declarations::{differences, Sources};
 const EXPORTS: &str = r#"
 // A call. extern "C" in a comment is none.
 fn inner(sheet: &[u8]) -> usize
-    ensures { λ r. ⌜ r ≡ length (now (sheet .entry)) ⌝ }
+    ensures { result ≡ length sheet.now }
 {
     sheet.len()
 }
 
-#[no_mangle]
+#[unsafe(no_mangle)]
 pub extern "C" fn fdfa_pass_start(answer: &mut [u8]) -> u32
-    ensures { λ r. ⌜ Told 32 (startNumbers) (now (answer .entry)) (now (answer .exit)) r ⌝ }
+    ensures { Told 32 start_numbers answer.old answer.new result }
 {
     told(&prefix_pass::start(), answer)
 }
 
 // The pass goes on.
-#[no_mangle]
+#[unsafe(no_mangle)]
 pub extern "C" fn fdfa_pass_on(
     sheet: &[u8],
     failed: usize,
@@ -27,24 +27,24 @@ pub extern "C" fn fdfa_pass_on(
     part: &[u8],
     answer: &mut [u8],
 ) -> u32
-    ensures { λ r. ⌜ Told 32 (passNumbers (now (sheet .entry)) failed) (now (answer .entry)) (now (answer .exit)) r ⌝ }
+    ensures { Told 32 (pass_numbers sheet.now failed) answer.old answer.new result }
 {
     0
 }
 
-#[no_mangle]
+#[unsafe(no_mangle)]
 pub extern "C" fn fdfa_sheet_write(level: usize, sheet: &[u8], seconds: &[u16], out: &mut [u8], answer: &mut [u8]) -> u32
 {
     0
 }
 
-#[no_mangle]
+#[unsafe(no_mangle)]
 pub extern "C" fn fdfa_cursor_rest<'a>(part: usize, position: usize, prefix: &'a [u8], period: &'a [u8], answer: &mut [u8]) -> u32
 {
     0
 }
 
-#[no_mangle]
+#[unsafe(no_mangle)]
 pub extern "C" fn fdfa_emptiness(sheet: &[u8], prefix: &mut [u8], period: &mut [u8], work: &mut [u64], answer: &mut [u8]) -> u32
 {
     0
@@ -202,7 +202,7 @@ const FAULTS: &[Fault] = &[
     (RUST, "    pub fn fdfa_pass_start(answer: *mut u8, answer_len: usize) -> u32;\n", ""),
     (EXPORT, "fn fdfa_pass_start(", "fn fdfa_pass_begin("),
     (EXPORT, "fn fdfa_pass_start(answer", "fn fdfa_pass_on(answer"),
-    (EXPORT, "#[no_mangle]\npub extern \"C\" fn fdfa_pass_on", "pub extern \"C\" fn fdfa_pass_on"),
+    (EXPORT, "#[unsafe(no_mangle)]\npub extern \"C\" fn fdfa_pass_on", "pub extern \"C\" fn fdfa_pass_on"),
     (EXPORT, "pub extern \"C\" fn fdfa_pass_on", "pub fn fdfa_pass_on"),
     (EXPORT, "pub extern \"C\" fn fdfa_pass_on", "extern \"C\" fn fdfa_pass_on"),
     // A constant that differs, or is missing.
