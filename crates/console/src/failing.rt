@@ -55,7 +55,10 @@ pub fn fail(rt: &HostRuntime, what: &[u8], error: Error) {
     };
     let _ = write!(text, "{error}");
     let bytes = &text.bytes[..];
-    let n = before_number(bytes);
+    let mut n = before_number(bytes);
+    if text.length < n {
+        n = text.length;
+    }
     say(rt, what);
     say(rt, b": ");
     say(rt, &bytes[..n]);
