@@ -14,7 +14,8 @@ pub fn sum_seconds(word: &[u8], seconds: &[u16]) -> usize
     let mut total = 0;
     let mut i = 0;
     while i < word.len() {
-        total += wide16(seconds[wide(word[i])]);
+        let more = wide16(seconds[wide(word[i])]);
+        total += more;
         i += 1;
     }
     total
