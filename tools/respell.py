@@ -1,12 +1,13 @@
 #!/usr/bin/env python3
-"""Brings the repository's own definitions and lemmas to the spelling of today's Rattle; run once, right after port.py.
+"""Brings the repository's own definitions and lemmas to the spelling of today's Rattle; run once, after port.py.
 
 usage: tools/respell.py FOLDER
 
-Words that are written in camel case get snake case, and so do the dashed labels of records, constructors and definitions: `textFault`
-becomes `text_fault`, the field `few-letters` becomes `few_letters`. A dash in a lemma's name joins two names and stays. A definition
-whose new name a Rattle function, module or crate has already gets `_of`, or `_value` where it ends in a preposition; a lemma whose name
-a definition gets has `_lem`. Functions, exported names, strings, inputs and outputs keep theirs.
+Words that are written in camel case get snake case, and so do the dashed labels of records, constructors and
+definitions: `textFault` becomes `text_fault`, the field `few-letters` becomes `few_letters`. A dash in a lemma's name
+joins two names and stays. A definition whose new name a Rattle function, module or crate has already gets `_of`, or
+`_value` where it ends in a preposition; a lemma whose name a definition gets has `_lem`. Functions, exported names,
+strings, inputs and outputs keep theirs.
 """
 import glob
 import os
@@ -77,7 +78,8 @@ def main(root):
                 dashed |= set(labels(text))
     # A label whose new name another thing has keeps its dash.
     others = {t for path in antt for t in TOKEN.findall(read(path))} | set(camel.values())
-    tables = {n: n.replace("-", "_") for n in dashed if not CAMEL.match(n.split("-")[0]) and n.replace("-", "_") not in others}
+    tables = {n: n.replace("-", "_") for n in dashed if not CAMEL.match(n.split("-")[0])}
+    tables = {n: to for n, to in tables.items() if to not in others}
     if len(set(camel.values())) != len(camel):
         sys.exit("two names fall together")
 
@@ -90,7 +92,10 @@ def main(root):
 
     for path in antt + code + pages:
         text = read(path)
-        turned = TOKEN.sub(lambda m: turn(m.group(0)), text) if path in antt else re.sub(WORD, lambda m: camel.get(m.group(0), m.group(0)), text)
+        if path in antt:
+            turned = TOKEN.sub(lambda m: turn(m.group(0)), text)
+        else:
+            turned = WORD.sub(lambda m: camel.get(m.group(0), m.group(0)), text)
         if turned != text:
             with open(path, "w", encoding="utf-8") as f:
                 f.write(turned)

@@ -1,19 +1,21 @@
--- The numbers of a text: the blocks before the last, read from left to right, and what the numbers say. Assumes nothing.
+-- The numbers of a text: the blocks before the last, read from left to right, and what the numbers say. Assumes
+-- nothing.
 use Rattle.std.specs.Prelude.{List, ◌++◌, ℕ, ◌+◌, ◌*◌, eqb, get_or}
 use Rattle.slices.specs.declared.Part.TheVariants.{First}
 use Rattle.slices.specs.Refusals.{Result, given, refused}
 use Rattle.slices.specs.Tables.{tab, sum}
 use Rattle.fdfa.specs.Family.{Fdfa}
 use Rattle.format.specs.Format.{Found, reading}
-use Rattle.blocks.specs.Text.{timed, counts_format, seconds_format, leading_format, level_in, letters_in, states_in, leading_in, size_in}
+use Rattle.blocks.specs.Text.{timed, counts_format, seconds_format, leading_format, level_in, letters_in, states_in}
+use Rattle.blocks.specs.Text.{leading_in, size_in}
 
 -- What follows what was read: of its numbers and the place after it.
 abbrev pub following : {A : Type 0} → Result Found → (List ℕ → ℕ → Result A) → Result A
 following (given f) go = go f.values f.next
 following (refused r) go = refused r
 
--- The numbers before the last block: the front, and the timings, those of the rows of seconds, scene and seconds in turn, of which level three
--- has none; and the place after them.
+-- The numbers before the last block: the front, and the timings, those of the rows of seconds, scene and seconds in
+-- turn, of which level three has none; and the place after them.
 pub record Blocks : Type 0 where
   pub front : List ℕ
   pub timings : List ℕ

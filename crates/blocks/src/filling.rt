@@ -19,7 +19,8 @@ fn gather(
     to: usize,
 ) -> usize
     requires at_bound { (at ≤ 65536) × (stride ≤ 40) × (count ≤ 40) × (to + count ≤ length out.old) }
-    requires by_index { (i : ℕ) → i < count → (at + i * stride < length values.now) × (get_or values.now (at + i * stride) 0 < 256) }
+    requires by_index { (i : ℕ) → i < count → (at + i * stride < length values.now) ×
+        (get_or values.now (at + i * stride) 0 < 256) }
     ensures { Stored out.old to (tab count (λ i. get_or values.now (at + i * stride) 0)) out.new result }
 {
     let mut w = to;
@@ -47,7 +48,8 @@ fn fill_table(
     requires at_bound { (at ≤ 40000) × (head ≤ 3) × (s ≤ 32) × (k ≤ 32) × (to + k * s ≤ length out.old) }
     requires head_in_bounds { at + k * (s + head) ≤ length values.now }
     requires by_index { (q a : ℕ) → q < k → a < s → get_or values.now (at + (q * (s + head) + (head + a))) 0 < 256 }
-    ensures { Stored out.old to (table k s (λ q a. get_or values.now (at + (q * (s + head) + (head + a))) 0)) out.new result }
+    ensures { Stored out.old to (table k s (λ q a. get_or values.now
+        (at + (q * (s + head) + (head + a))) 0)) out.new result }
 {
     let mut w = to;
     let mut p = at + head;
@@ -62,10 +64,12 @@ fn fill_table(
 
 // The part of a progress automaton of k states, whose rows begin at `at`.
 fn fill_part(parts: &[u16], s: usize, k: usize, at: usize, out: &mut [u8], to: usize) -> usize
-    requires at_bound { (at ≤ 40000) × (s ≤ 32) × (k ≤ 32) × (to + k * (s + 1) ≤ length out.old) × (at + k * (s + 3) ≤ length parts.now) }
+    requires at_bound { (at ≤ 40000) × (s ≤ 32) × (k ≤ 32) × (to + k * (s + 1) ≤ length out.old) ×
+        (at + k * (s + 3) ≤ length parts.now) }
     requires by_index { (p a : ℕ) → p < k → a < s → get_or parts.now (at + (p * (s + 3) + (3 + a))) 0 < 256 }
     requires by_index_2 { (p : ℕ) → p < k → get_or parts.now (at + (p * (s + 3) + 2)) 0 < 256 }
-    ensures { Stored out.old to (table k s (λ p a. get_or parts.now (at + (p * (s + 3) + (3 + a))) 0) ++ tab k (λ p. get_or parts.now (at + (p * (s + 3) + 2)) 0)) out.new result }
+    ensures { Stored out.old to (table k s (λ p a. get_or parts.now (at + (p * (s + 3) + (3 + a))) 0)
+        ++ tab k (λ p. get_or parts.now (at + (p * (s + 3) + 2)) 0)) out.new result }
 {
     let w = fill_table(parts, at, 3, s, k, out, to);
     gather(parts, at + 2, s + 3, k, out, w)
@@ -74,8 +78,10 @@ fn fill_part(parts: &[u16], s: usize, k: usize, at: usize, out: &mut [u8], to: u
 // The parts of all progress automata. The sizes are in the front.
 fn fill_parts(front: &[u16], parts: &[u16], s: usize, n: usize, out: &mut [u8], to: usize) -> usize
     requires readable { Readable front.now parts.now × (s ≡ letters_in front.now) × (n ≡ states_in front.now) }
-    requires parts_in_bounds { to + length (rows (states_in front.now) (part_bytes (family_of front.now parts.now))) ≤ length out.old }
-    ensures { Stored out.old to (rows (states_in front.now) (part_bytes (family_of front.now parts.now))) out.new result }
+    requires parts_in_bounds { to + length (rows (states_in front.now)
+        (part_bytes (family_of front.now parts.now))) ≤ length out.old }
+    ensures { Stored out.old to (rows (states_in front.now)
+        (part_bytes (family_of front.now parts.now))) out.new result }
 {
     let mut p = 0;
     let mut w = to;
@@ -113,7 +119,8 @@ pub fn fill(front: &[u16], parts: &[u16], s: usize, n: usize, out: &mut [u8]) ->
 
 // The rows of all progress automata.
 pub fn row_count(front: &[u16], s: usize, n: usize) -> usize
-    requires s_value { (s ≡ letters_in front.now) × (n ≡ states_in front.now) × (s ≤ 32) × (n ≤ 32) × (3 + n * (s + 2) ≤ length front.now) }
+    requires s_value { (s ≡ letters_in front.now) × (n ≡ states_in front.now) × (s ≤ 32) × (n ≤ 32) ×
+        (3 + n * (s + 2) ≤ length front.now) }
     requires by_index { (q : ℕ) → q < n → size_in front.now q ≤ 32 }
     ensures { (result ≡ sum (states_in front.now) (size_in front.now)) × (result ≤ 1024) }
 {

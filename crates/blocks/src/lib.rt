@@ -1,4 +1,5 @@
-// The blocks of a sheet's text, at both levels: read as numbers, the packed sheet filled from these, and written from a packed sheet.
+// The blocks of a sheet's text, at both levels: read as numbers, the packed sheet filled from these, and written from a
+// packed sheet.
 #![tactic(auto)]
 
 mod names; // names.rt: the names of the letters

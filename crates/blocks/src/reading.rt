@@ -1,10 +1,11 @@
-// The blocks of a sheet's text, read one after the other; their numbers go to lent slices, in the order of the text, those of the seconds
-// to one of their own.
+// The blocks of a sheet's text, read one after the other; their numbers go to lent slices, in the order of the text,
+// those of the seconds to one of their own.
 ghost use Rattle.std.specs.Prelude.{◌≡◌, ◌∷◌, [], ◌+◌, ◌*◌, ◌≤◌, ◌<◌, length, take};
 ghost use Rattle.slices.specs.declared.Part.TheVariants.{First};
 ghost use Rattle.format.specs.Format.{reading, Fits, seq, each, literal};
 ghost use Rattle.format.specs.Steps.{placed, step_says, Reads};
-ghost use Rattle.blocks.specs.Text.{names, head, counts_row_of, leading_row_of, progress_row_of, counts_format, leading_format, part_format, letters_in, states_in, size_in, parts_format};
+ghost use Rattle.blocks.specs.Text.{names, head, counts_row_of, leading_row_of, progress_row_of, counts_format};
+ghost use Rattle.blocks.specs.Text.{leading_format, part_format, letters_in, states_in, size_in, parts_format};
 ghost use Rattle.blocks.specs.Numbers.{blocks_from, blocks_of};
 ghost use Rattle.blocks.specs.Values.{front_format, ReadsBlocks};
 
@@ -107,7 +108,8 @@ fn progress_row(s: usize, q: usize, k: usize) -> Row
 // The names of the letters and a line feed.
 fn read_names(text: &[u8], at: usize, s: usize) -> Step
     requires { (at ≤ length text.now) × (s ≤ 32) }
-    ensures { step_says result ≡ placed (reading First text.now (seq (literal (names s)) (λ vs. literal (10 ∷ []))) at) }
+    ensures { step_says result ≡ placed (reading First text.now
+        (seq (literal (names s)) (λ vs. literal (10 ∷ []))) at) }
 {
     let step = read_literal(text, at, &NAMES[..names_len(s)], Part::First);
     match step {
@@ -154,8 +156,10 @@ fn read_leading(text: &[u8], at: usize, s: usize, n: usize, rows: &mut [u16]) ->
 
 // The blocks between the counts, which lie at the start of `front`, and the last.
 fn read_middle(text: &[u8], at: usize, front: &mut [u16], seconds: &mut [u16]) -> Step
-    requires { (at ≤ length text.now) × Fits counts_format (take 3 front.old) × (1091 ≤ length front.old) × (64 ≤ length seconds.old) }
-    ensures { ReadsBlocks (blocks_from text.now (take 3 front.old) at) front.old front.new seconds.old seconds.new result }
+    requires { (at ≤ length text.now) × Fits counts_format (take 3 front.old) × (1091 ≤ length front.old) ×
+        (64 ≤ length seconds.old) }
+    ensures { ReadsBlocks
+        (blocks_from text.now (take 3 front.old) at) front.old front.new seconds.old seconds.new result }
 {
     let level = wide16(front[0]);
     let s = wide16(front[1]);
@@ -181,8 +185,10 @@ pub fn read_blocks(text: &[u8], front: &mut [u16], seconds: &mut [u16]) -> Step
 
 // The rows of the progress automata. Their sizes are in the front.
 fn read_parts(text: &[u8], at: usize, front: &[u16], s: usize, n: usize, parts: &mut [u16]) -> Step
-    requires { (at ≤ length text.now) × Fits front_format front.now × (s ≡ letters_in front.now) × (n ≡ states_in front.now) × (35840 ≤ length parts.old) }
-    ensures { Reads (reading First text.now (each n (λ q. part_format s (size_in front.now q) q)) at) parts.old parts.new result }
+    requires { (at ≤ length text.now) × Fits front_format front.now × (s ≡ letters_in front.now) ×
+        (n ≡ states_in front.now) × (35840 ≤ length parts.old) }
+    ensures { Reads (reading First text.now (each n (λ q. part_format s
+        (size_in front.now q) q)) at) parts.old parts.new result }
 {
     let mut p = at;
     let mut w = 0;
@@ -221,7 +227,8 @@ pub fn read_progress(
     n: usize,
     parts: &mut [u16],
 ) -> Step
-    requires { (at ≤ length text.now) × Fits front_format front.now × (s ≡ letters_in front.now) × (n ≡ states_in front.now) × (35840 ≤ length parts.old) }
+    requires { (at ≤ length text.now) × Fits front_format front.now × (s ≡ letters_in front.now) ×
+        (n ≡ states_in front.now) × (35840 ≤ length parts.old) }
     ensures { Reads (reading First text.now (parts_format front.now) at) parts.old parts.new result }
 {
     let step = read_head(text, at, b"place loop mark", s);

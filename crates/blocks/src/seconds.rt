@@ -83,7 +83,8 @@ pub fn fill_seconds(rows: &[u16], m: usize, seconds: &mut [u16])
 }
 
 pub fn put_seconds(level: usize, s: usize, seconds: &[u16], out: &mut [u8], at: usize) -> usize
-    requires { (s ≤ 32) × (timed level s ≤ length seconds.now) × (at + length (seconds_text level s seconds.now) ≤ 18446744073709551615) }
+    requires { (s ≤ 32) × (timed level s ≤ length seconds.now) ×
+        (at + length (seconds_text level s seconds.now) ≤ 18446744073709551615) }
     ensures { Stored out.old at (seconds_text level s seconds.now) out.new result }
 {
     let m = timed(level, s);

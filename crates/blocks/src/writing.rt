@@ -1,4 +1,5 @@
-// The text of a sheet, line by line. A byte is stored where there is room for it, so that a text can be measured on an empty slice.
+// The text of a sheet, line by line. A byte is stored where there is room for it, so that a text can be measured on an
+// empty slice.
 ghost use Rattle.std.specs.Prelude.{◌≡◌, ◌∷◌, [], ◌++◌, ◌+◌, ◌*◌, ◌≤◌, ◌<◌, length, get_or};
 ghost use Rattle.std.proofs.lemmas.List.Edits.{sets};
 ghost use Rattle.slices.specs.Filling.{written};
@@ -36,7 +37,8 @@ fn put_nexts(sheet: &[u8], from: usize, s: usize, head: usize, row: &mut [u16])
 
 // The numbers of a row of the leading automaton: q, k(q), the next states.
 fn leading_values(sheet: &[u8], s: usize, n: usize, q: usize, row: &mut [u16])
-    requires { Valid sheet.now × (s ≡ letter_count sheet.now) × (n ≡ state_count sheet.now) × (q < n) × (s + 2 ≤ length row.old) }
+    requires { Valid sheet.now × (s ≡ letter_count sheet.now) × (n ≡ state_count sheet.now) × (q < n) ×
+        (s + 2 ≤ length row.old) }
     ensures { row.new ≡ written (leading_values_of (decode sheet.now) q) row.old }
 {
     row[0] = narrow16(q);
@@ -54,7 +56,8 @@ fn progress_values(
     p: usize,
     row: &mut [u16],
 )
-    requires { Valid sheet.now × (s ≡ letter_count sheet.now) × (q < state_count sheet.now) × (k ≡ size_of sheet.now q) × (from ≡ progress_at_value sheet.now q) × (p < k) × (s + 3 ≤ length row.old) }
+    requires { Valid sheet.now × (s ≡ letter_count sheet.now) × (q < state_count sheet.now) ×
+        (k ≡ size_of sheet.now q) × (from ≡ progress_at_value sheet.now q) × (p < k) × (s + 3 ≤ length row.old) }
     ensures { row.new ≡ written (progress_values_of (decode sheet.now) q p) row.old }
 {
     row[0] = narrow16(q);
@@ -85,7 +88,8 @@ fn put_counts(level: usize, s: usize, n: usize, out: &mut [u8]) -> usize
 
 // The rows of the leading automaton.
 fn put_leading_rows(sheet: &[u8], s: usize, n: usize, out: &mut [u8], at: usize) -> usize
-    requires { Valid sheet.now × (s ≡ letter_count sheet.now) × (n ≡ state_count sheet.now) × (at + length (rows n (λ q. line (leading_values_of (decode sheet.now) q))) ≤ 18446744073709551615) }
+    requires { Valid sheet.now × (s ≡ letter_count sheet.now) × (n ≡ state_count sheet.now) ×
+        (at + length (rows n (λ q. line (leading_values_of (decode sheet.now) q))) ≤ 18446744073709551615) }
     ensures { Stored out.old at (rows n (λ q. line (leading_values_of (decode sheet.now) q))) out.new result }
 {
     let mut row = [0u16; 35];
@@ -101,7 +105,8 @@ fn put_leading_rows(sheet: &[u8], s: usize, n: usize, out: &mut [u8], at: usize)
 
 // The rows of the progress automaton of q.
 fn put_part(sheet: &[u8], s: usize, q: usize, out: &mut [u8], at: usize) -> usize
-    requires { Valid sheet.now × (s ≡ letter_count sheet.now) × (q < state_count sheet.now) × (at + length (part_text (decode sheet.now) q) ≤ 18446744073709551615) }
+    requires { Valid sheet.now × (s ≡ letter_count sheet.now) × (q < state_count sheet.now) ×
+        (at + length (part_text (decode sheet.now) q) ≤ 18446744073709551615) }
     ensures { Stored out.old at (part_text (decode sheet.now) q) out.new result }
 {
     let k = packed::size(sheet, q);
@@ -119,7 +124,8 @@ fn put_part(sheet: &[u8], s: usize, q: usize, out: &mut [u8], at: usize) -> usiz
 
 // The rows of the progress automata.
 fn put_parts(sheet: &[u8], s: usize, n: usize, out: &mut [u8], at: usize) -> usize
-    requires { Valid sheet.now × (s ≡ letter_count sheet.now) × (n ≡ state_count sheet.now) × (at + length (rows n (part_text (decode sheet.now))) ≤ 18446744073709551615) }
+    requires { Valid sheet.now × (s ≡ letter_count sheet.now) × (n ≡ state_count sheet.now) ×
+        (at + length (rows n (part_text (decode sheet.now))) ≤ 18446744073709551615) }
     ensures { Stored out.old at (rows n (part_text (decode sheet.now))) out.new result }
 {
     let mut p = at;

@@ -17,7 +17,8 @@ flipped_part part count = take count part ++ tab (length part - count) (flipped_
 
 -- The mark of a pair of states, by the marks of both.
 abbrev pub pair_mark : Operation → List ℕ → List ℕ → Beside → ℕ → ℕ
-pair_mark op b c m x = mark (op_of op (eqb (get_or b (m.first + x / m.width) 0) 1) (eqb (get_or c (m.second + x % m.width) 0) 1))
+pair_mark op b c m x = mark (op_of op (eqb (get_or b (m.first + x / m.width) 0) 1)
+    (eqb (get_or c (m.second + x % m.width) 0) 1))
 
 -- The size of the pair x of leading states.
 abbrev pub pair_size : List ℕ → List ℕ → ℕ → ℕ
@@ -37,7 +38,8 @@ pair_part op b c p q =
 
 -- The parts of all pairs.
 abbrev pub product_parts : Operation → List ℕ → List ℕ → List ℕ
-product_parts op b c = rows (state_count b * state_count c) (λ x. pair_part op b c (x / state_count c) (x % state_count c))
+product_parts op b c = rows (state_count b * state_count c)
+    (λ x. pair_part op b c (x / state_count c) (x % state_count c))
 
 -- Where the part of the pair x begins.
 unfoldable pub product_at : List ℕ → List ℕ → ℕ → ℕ

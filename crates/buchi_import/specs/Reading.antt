@@ -1,7 +1,8 @@
 -- Reading the text of an automaton, for any bytes. A text is read from left to right, so that what is refused first is
 -- refused at the smallest place: once with no limit on targets and accepting states, which finds how many states there
 -- are, and then with that limit. Assumes nothing.
-use Rattle.std.specs.Prelude.{Bool, false, cond, not, ◌||◌, ◌&&◌, List, [], ◌∷◌, ℕ, ◌+◌, ◌*◌, ◌-◌, ◌/◌, ◌%◌, eqb, ltb, length, get_or}
+use Rattle.std.specs.Prelude.{Bool, false, cond, not, ◌||◌, ◌&&◌, List, [], ◌∷◌, ℕ, ◌+◌, ◌*◌, ◌-◌, ◌/◌, ◌%◌, eqb, ltb}
+use Rattle.std.specs.Prelude.{length, get_or}
 use Prim.Native.Char.{code}
 use Rattle.slices.specs.declared.Part.TheVariants.{First, Out}
 use Rattle.slices.specs.Refusals.{Fault, ◌then◌, when, Result, given, refused, fault_in}

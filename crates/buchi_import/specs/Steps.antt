@@ -27,7 +27,11 @@ pub record Extent : Type 0 where
   pub next : ℕ
 
 abbrev pub extent_of : Result Found → Result Extent
-extent_of x = mapped (λ (w : Found). record { count = move_count w.values; of-start = letters_in w.values; next = w.next }) x
+extent_of x = mapped (λ (w : Found). record {
+  count = move_count w.values;
+  of-start = letters_in w.values;
+  next = w.next;
+}) x
 
 abbrev pub moves_say : Moves → Result Extent
 moves_say (moves.Counted m c next) = given (record { count = m; of-start = c; next = next })
@@ -53,7 +57,8 @@ pub record Noted (old states new : List ℕ) : Type 0 where
   pub same : length new ≡ length old
   pub cells : (p : ℕ) → p < length old → get_or new p 0 ≡ cond (is_in p states) 1 (get_or old p 0)
 
--- Transitions, accepting states, the rest of a text after some transitions, and a whole text were read; a refusal leaves the cells open.
+-- Transitions, accepting states, the rest of a text after some transitions, and a whole text were read; a refusal
+-- leaves the cells open.
 pub record MovesRead (x : Result Found) (old new : List ℕ) (r : Moves) : Type 0 where
   pub says : moves_say r ≡ extent_of x
   pub same : length new ≡ length old
@@ -65,9 +70,11 @@ pub record AcceptingRead (x : Result Found) (old new : List ℕ) (r : Lines) : T
   pub cells : (w : Found) → x ≡ given w → Noted old w.values new
 
 pub record RestRead (limit : ℕ) (t : List ℕ) (at m c : ℕ) (old new : List ℕ) (r : Drawn) : Type 0 where
-  pub says : (ms : List ℕ) → move_count ms ≡ m → letters_in ms ≡ c → drawn_says r ≡ sizes_of (moved limit t (given (record { values = ms; next = at })))
+  pub says : (ms : List ℕ) → move_count ms ≡ m → letters_in ms ≡ c →
+      drawn_says r ≡ sizes_of (moved limit t (given (record { values = ms; next = at })))
   pub same : length new ≡ length old
-  pub cells : (ms : List ℕ) (w : Numbers) → move_count ms ≡ m → letters_in ms ≡ c → moved limit t (given (record { values = ms; next = at })) ≡ given w → Noted old w.finals new
+  pub cells : (ms : List ℕ) (w : Numbers) → move_count ms ≡ m → letters_in ms ≡ c →
+      moved limit t (given (record { values = ms; next = at })) ≡ given w → Noted old w.finals new
 
 pub record TextRead (x : Result Numbers) (ts ts' fs fs' : List ℕ) (r : Drawn) : Type 0 where
   pub says : drawn_says r ≡ sizes_of x
@@ -83,7 +90,8 @@ automaton_in s n ts fs = record {
   accepting = λ p. eqb (get_or fs p 0) 1;
 }
 
--- Its counts are within the bounds, all of its transitions and states lie in the slices, and each transition leads to one of its states.
+-- Its counts are within the bounds, all of its transitions and states lie in the slices, and each transition leads to
+-- one of its states.
 pub record Stocked (s n : ℕ) (ts fs : List ℕ) : Type 0 where
   pub some_letters : 1 ≤ s
   pub few_letters : s ≤ 32

@@ -1,5 +1,5 @@
-// The packed sheet of an automaton's family: of s letters and n states, by where its transitions lead and which of its states are
-// accepting (1 in `finals`). Each function answers the place after the cells that it fills.
+// The packed sheet of an automaton's family: of s letters and n states, by where its transitions lead and which of its
+// states are accepting (1 in `finals`). Each function answers the place after the cells that it fills.
 ghost use Rattle.std.specs.Prelude.{◌≡◌, cond, ℕ, ◌+◌, ◌*◌, ◌-◌, ◌%◌, ◌≤◌, ◌<◌, eqb, length, get_or};
 ghost use Rattle.slices.specs.Tables.{tab, rows, table};
 ghost use Rattle.fdfa.specs.Buchi.{pair_flag, from_buchi};
@@ -62,7 +62,8 @@ fn put_progress(
     at: usize,
 ) -> usize
     requires { Stocked s n targets.now finals.now × (q < n) × (at ≤ 40000) }
-    ensures { Stored out.old at (table (2 * n) s ((from_buchi (automaton_in s n targets.now finals.now)).progress q)) out.new result }
+    ensures { Stored out.old at (table (2 * n) s ((from_buchi
+        (automaton_in s n targets.now finals.now)).progress q)) out.new result }
 {
     let count = 2 * n * s;
     let mut w = at;
@@ -95,7 +96,8 @@ fn put_flags(n: usize, out: &mut [u8], at: usize) -> usize
 // The parts of all progress automata.
 fn put_parts(targets: &[u16], finals: &[u8], s: usize, n: usize, out: &mut [u8], at: usize) -> usize
     requires { Stocked s n targets.now finals.now × (at ≤ 1000) }
-    ensures { Stored out.old at (rows n (part_bytes (from_buchi (automaton_in s n targets.now finals.now)))) out.new result }
+    ensures { Stored out.old at (rows n (part_bytes (from_buchi
+        (automaton_in s n targets.now finals.now)))) out.new result }
 {
     let mut w = at;
     let mut q = 0;
@@ -123,7 +125,8 @@ fn put_sizes(n: usize, out: &mut [u8], at: usize) -> usize
 
 // The leading table.
 fn put_leading(targets: &[u16], count: usize, out: &mut [u8], at: usize) -> usize
-    requires { (count ≤ length targets.now) × (count ≤ 512) × (at ≤ 1000) × ((i : ℕ) → i < count → get_or targets.now i 0 < 256) }
+    requires { (count ≤ length targets.now) × (count ≤ 512) × (at ≤ 1000) ×
+        ((i : ℕ) → i < count → get_or targets.now i 0 < 256) }
     ensures { Stored out.old at (tab count (λ i. get_or targets.now i 0)) out.new result }
 {
     let mut w = at;

@@ -8,7 +8,8 @@ mod filling; // filling.rt: the packed sheet of an automaton
 ghost use Rattle.std.specs.Prelude.{◌≡◌, length};
 ghost use Rattle.slices.specs.Refusals.{given};
 ghost use Rattle.slices.specs.Filling.{Fills};
-ghost use Rattle.buchi_import.specs.Reading.{Numbers, states_in, numbers_below, bytes_in, pack_fault, bytes_of, read_fault};
+ghost use Rattle.buchi_import.specs.Reading.{Numbers, states_in, numbers_below, bytes_in, pack_fault, bytes_of};
+ghost use Rattle.buchi_import.specs.Reading.{read_fault};
 ghost use Rattle.buchi_import.specs.Steps.{sizes_of, drawn_says};
 
 use filling::{put_sheet, sheet_len};
@@ -53,7 +54,8 @@ fn judge(text: &[u8]) -> Drawn
 // The text of an automaton of n states, and the packed sheet of its family.
 fn read_below(text: &[u8], n: usize, out: &mut [u8]) -> Written
     requires { (w : Numbers) × (numbers_below 1000 text.now ≡ given w) × (states_in w.moves ≡ n) }
-    ensures { Fills (pack_fault (numbers_below n text.now) (length out.old)) (bytes_in (numbers_below n text.now)) out.old out.new result }
+    ensures { Fills (pack_fault (numbers_below n text.now) (length out.old))
+        (bytes_in (numbers_below n text.now)) out.old out.new result }
 {
     let mut targets = [0u16; 512];
     let mut finals = [0u8; 16];

@@ -1,11 +1,13 @@
-// The text of an automaton, read from left to right, with a limit on the states that transitions lead to and on accepting ones. What is
-// found is stored where there is room for it, so that a text can be judged with slices too short for it.
+// The text of an automaton, read from left to right, with a limit on the states that transitions lead to and on
+// accepting ones. What is found is stored where there is room for it, so that a text can be judged with slices too
+// short for it.
 ghost use Rattle.std.specs.Prelude.{◌≡◌, cond, List, [], ◌∷◌, ℕ, ◌+◌, ◌*◌, ◌≤◌, ◌<◌, eqb, length};
 ghost use Rattle.slices.specs.declared.Part.TheVariants.{First};
 ghost use Rattle.slices.specs.Refusals.{given};
 ghost use Rattle.numbers.specs.Storing.{Stored};
 ghost use Rattle.format.specs.Lines.{repeated};
-ghost use Rattle.buchi_import.specs.Reading.{transitions, accepting_states, move_count, letters_in, ended, numbers_below};
+ghost use Rattle.buchi_import.specs.Reading.{transitions, accepting_states, move_count, letters_in, ended};
+ghost use Rattle.buchi_import.specs.Reading.{numbers_below};
 ghost use Rattle.buchi_import.specs.Steps.{sizes_of, drawn_says, Noted, MovesRead, AcceptingRead, RestRead, TextRead};
 
 use crate::single::{read_move, read_state};
@@ -98,7 +100,8 @@ fn read_accepting(text: &[u8], at: usize, limit: usize, finals: &mut [u8]) -> Li
 // What is read of a text with m transitions, c of them of state 0, and k accepting states, which end at a place.
 fn ended(text: &[u8], at: usize, m: usize, c: usize, k: usize) -> Drawn
     requires { 0 < c }
-    ensures { (ms vs : List ℕ) → move_count ms ≡ m → letters_in ms ≡ c → length vs ≡ k → drawn_says result ≡ sizes_of (ended text.now ms (given (record { values = vs; next = at }))) }
+    ensures { (ms vs : List ℕ) → move_count ms ≡ m → letters_in ms ≡ c → length vs ≡ k →
+        drawn_says result ≡ sizes_of (ended text.now ms (given (record { values = vs; next = at }))) }
 {
     if at != text.len() {
         return Drawn::Refused(refuse(11, Part::First, at));

@@ -4,7 +4,8 @@ ghost use Rattle.slices.specs.declared.Part.TheVariants.{First};
 ghost use Rattle.format.specs.Format.{after, reading, seq, literal};
 ghost use Rattle.format.specs.Lines.{labelled};
 ghost use Rattle.format.specs.Steps.{cell_says};
-ghost use Rattle.buchi_import.specs.Reading.{turn, due_letter_of, due_state_of, target, from_state, transition, rising, accepting_state};
+ghost use Rattle.buchi_import.specs.Reading.{turn, due_letter_of, due_state_of, target, from_state, transition, rising};
+ghost use Rattle.buchi_import.specs.Reading.{accepting_state};
 ghost use Rattle.buchi_import.specs.Steps.{move_says};
 
 use crate::{LETTERS, Move, STATES};
@@ -59,7 +60,8 @@ fn due_state(m: usize, c: usize, a: usize) -> usize
 // A state in brackets after a word that ends with the first of them, at the end of a line.
 fn read_last(text: &[u8], at: usize, word: &[u8], column: Column) -> Cell
     requires { at ≤ length text.now }
-    ensures { cell_says result ≡ reading First text.now (seq (labelled word.now (λ v. column) 93) (λ vs. literal (10 ∷ []))) at }
+    ensures { cell_says result ≡ reading First text.now
+        (seq (labelled word.now (λ v. column) 93) (λ vs. literal (10 ∷ []))) at }
 {
     let state = read_labelled(text, at, word, column, 93, Part::First);
     match state {

@@ -1,5 +1,5 @@
-// For C, by c_search_c and players: the comparison of two sheets and the test of emptiness, in lent cells of work. Each call returns 0,
-// and changes nothing, where the answer slice is too short; else 1.
+// For C, by c_search_c and players: the comparison of two sheets and the test of emptiness, in lent cells of work. Each
+// call returns 0, and changes nothing, where the answer slice is too short; else 1.
 #![tactic(auto)]
 
 ghost use Rattle.std.specs.Prelude.{◌≡◌, [], ◌∷◌};

@@ -1,4 +1,5 @@
-// For C: c_search's calls under their names, as a static library has them; c_search itself stays a library, which players uses.
+// For C: c_search's calls under their names, as a static library has them; c_search itself stays a library, which
+// players uses.
 #![tactic(auto)]
 
 ghost use Rattle.c_search.specs.Searches.{ComparedTold, EmptiedTold};

@@ -78,7 +78,8 @@ refusal_in (Long r) = fault r
 pub record Says (f : File) (before after : Kept) (n : ℕ) (old new : List ℕ) (r : ℕ) : Type 0 where
   pub within : r ≤ length old
   pub same : is_new_of before after ≡ false → (r ≡ n) × (new ≡ old)
-  pub fresh : (q : Refusal) → is_new_of before after ≡ true → refusal_in after ≡ fault q → Shows (text_words f q) old new r
+  pub fresh : (q : Refusal) → is_new_of before after ≡ true → refusal_in after ≡ fault q →
+      Shows (text_words f q) old new r
 
 -- The texts of some files.
 unfoldable pub texts : List File → List (List ℕ)

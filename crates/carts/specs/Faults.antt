@@ -6,7 +6,8 @@ use Rattle.slices.specs.Scans.{outside, scan}
 use Rattle.fdfa.specs.Family.{Words}
 use Rattle.packed.specs.Layout.{letter_count}
 use Rattle.packed.specs.Faults.{sheet_fault}
-use Rattle.carts.specs.Reading.{count_of, prefix_length, period_length, prefix_at, period_at, end_at, end_from, shows_of}
+use Rattle.carts.specs.Reading.{count_of, prefix_length, period_length, prefix_at, period_at, end_at, end_from}
+use Rattle.carts.specs.Reading.{shows_of}
 
 -- 28: no byte at all; 27: no show or more than 64; 28: the last show does not end where the cart does. Past the cart's
 -- end bytes count as 0, so a show whose header or scenes are cut ends past it, and so do all behind it.

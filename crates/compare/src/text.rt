@@ -9,8 +9,8 @@ use inclusion::{Comparison, Outcome, Standing};
 use lasso_text::put_lasso;
 use numbers::put_field;
 
-// Room for what is printed: the first block has at most 102 bytes, the second 11 and at most 29 for each of 8,192 scenes, the last
-// at most 95.
+// Room for what is printed: the first block has at most 102 bytes, the second 11 and at most 29 for each of 8,192
+// scenes, the last at most 95.
 pub const ROOM: usize = 237776;
 
 // The first block.
@@ -48,7 +48,8 @@ fn put_standings(z: Comparison, out: &mut [u8], at: usize) -> usize
 
 // All of it, for every answer.
 pub fn comparison_text(answer: Outcome, opening: &[u8], period: &[u8], out: &mut [u8]) -> usize
-    requires { Lies answer (length opening.now) (length period.now) × (length opening.now ≤ 4096) × (length period.now ≤ 4096) × (237776 ≤ length out.old) }
+    requires { Lies answer (length opening.now) (length period.now) × (length opening.now ≤ 4096) ×
+        (length period.now ≤ 4096) × (237776 ≤ length out.old) }
     ensures { Shows (comparison_text_of answer opening.now period.now) out.old out.new result }
 {
     match answer {

@@ -1,4 +1,5 @@
--- What files are turned into: a text into the packed sheet and the bytes of its seconds, and these into a text. Assumes nothing.
+-- What files are turned into: a text into the packed sheet and the bytes of its seconds, and these into a text. Assumes
+-- nothing.
 use Rattle.std.specs.Prelude.{◌≡◌, Bool, true, false, List, ℕ, ◌≤◌, length}
 use Rattle.slices.specs.declared.Written.{Written}
 use Rattle.slices.specs.Refusals.{Fault, Result, given, refused, unless, written_says}
@@ -31,7 +32,8 @@ packed_says (Refused r) = refused r
 abbrev pub pack_fault : Result Sheet → ℕ → Fault
 pack_fault x room = read_fault x room 32
 
--- The packed sheet and the bytes of the seconds are filled, level and lengths said; or nothing is changed and the refusal said.
+-- The packed sheet and the bytes of the seconds are filled, level and lengths said; or nothing is changed and the
+-- refusal said.
 pub record Packs (x : Result Sheet) (sheet seconds sheet' seconds' : List ℕ) (r : Packed) : Type 0 where
   pub says : packed_says r ≡ unless (pack_fault x (length sheet)) (told_of (said x))
   pub cells : sheet' ≡ filled (pack_fault x (length sheet)) (said x).bytes sheet
@@ -45,7 +47,8 @@ level_of_value false = 3
 -- The text of a packed sheet and of the seconds that some bytes are.
 abbrev pub Unpacks : Bool → List ℕ → List ℕ → List ℕ → List ℕ → Written → Type 0
 Unpacks named b seconds old out r =
-    Fills (write_fault (level_of_value named) (halves_of seconds) b (length old)) (text_of (level_of_value named) (halves_of seconds) b) old out r
+    Fills (write_fault (level_of_value named) (halves_of seconds) b (length old))
+    (text_of (level_of_value named) (halves_of seconds) b) old out r
 
 -- What was filled lies within a slice.
 abbrev pub Within : Written → List ℕ → Type 0

@@ -1,4 +1,5 @@
--- A cursor over the infinite word of a lasso: which of the two words it stands in, and the position there. Assumes nothing.
+-- A cursor over the infinite word of a lasso: which of the two words it stands in, and the position there. Assumes
+-- nothing.
 use Rattle.std.specs.Prelude.{cond, List, [], ℕ, zero, suc, ◌+◌, eqb, ltb, leb, length, get_or, drop}
 use Rattle.slices.specs.declared.Part.TheVariants as part
 use Rattle.slices.specs.declared.Refusal.{Refusal}
@@ -29,7 +30,8 @@ step_fault c u v =
 
 -- One letter further in a word: after the last of either word comes position 0 of the period.
 abbrev pub next_in : Cursor → List ℕ → Cursor
-next_in c w = cond (ltb (c.at + 1) (length w)) (record { phase = c.phase; at = c.at + 1 }) (record { phase = Period; at = 0 })
+next_in c w = cond (ltb (c.at + 1) (length w)) (record { phase = c.phase; at = c.at + 1 })
+    (record { phase = Period; at = 0 })
 
 abbrev pub next_of : Cursor → List ℕ → List ℕ → Cursor
 next_of c u v = next_in c (named c u v)
@@ -60,7 +62,8 @@ if_sound (fault r) a b = b
 abbrev pub rest_of : Cursor → List ℕ → List ℕ → List ℕ
 rest_of c u v = if_sound (step_fault c u v) (drop c.at (named c u v)) []
 
--- Where it lies in the caller's memory, by block and offset, given where prefix and period lie: the empty part is at the prefix's start.
+-- Where it lies in the caller's memory, by block and offset, given where prefix and period lie: the empty part is at
+-- the prefix's start.
 abbrev pub lies : Phase → ℕ × ℕ → ℕ × ℕ → ℕ × ℕ
 lies Prefix p q = p
 lies Period p q = q

@@ -1,4 +1,5 @@
-// A cursor over the infinite word of a lasso: letter by letter through the prefix once, then through the period for ever.
+// A cursor over the infinite word of a lasso: letter by letter through the prefix once, then through the period for
+// ever.
 #![tactic(auto)]
 
 ghost use Rattle.std.specs.Prelude.{◌≡◌};
@@ -83,8 +84,8 @@ impl Cursor {
     }
 }
 
-// The rest of the word that the cursor stands in, as a part of the caller's own slice. It is never refused: where a step
-// would be, it is the empty part at the prefix's start.
+// The rest of the word that the cursor stands in, as a part of the caller's own slice. It is never refused: where a
+// step would be, it is the empty part at the prefix's start.
 pub fn rest<'a>(c: Cursor, prefix: &'a [u8], period: &'a [u8]) -> &'a [u8]
     ensures holds { result.now ≡ rest_of c prefix.now period.now }
     ensures lies { result.ref_ptr ≡ rest_lies c prefix.now period.now prefix.entry.ref_ptr period.entry.ref_ptr }

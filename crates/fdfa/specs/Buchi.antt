@@ -1,5 +1,6 @@
 -- Deterministic Büchi automata, and the family of DFAs of one (002, Theorem 5.3; 02: drawn automata). Assumes nothing.
-use Rattle.std.specs.Prelude.{◌≡◌, Bool, true, false, cond, ◌||◌, List, [], ◌∷◌, ℕ, zero, suc, ◌+◌, ◌*◌, ◌-◌, ◌/◌, ◌%◌, ◌≤◌, ◌<◌, eqb}
+use Rattle.std.specs.Prelude.{◌≡◌, Bool, true, false, cond, ◌||◌, List, [], ◌∷◌, ℕ, zero, suc, ◌+◌, ◌*◌, ◌-◌, ◌/◌, ◌%◌}
+use Rattle.std.specs.Prelude.{◌≤◌, ◌<◌, eqb}
 use Rattle.fdfa.specs.Family.{Fdfa, Closed}
 
 -- States and letters are numbered from 0, and state 0 is the start.
@@ -53,8 +54,8 @@ pair_state n q p = (p / 2 + q) % n
 abbrev pub pair_flag : ℕ → Bool
 pair_flag p = eqb (p % 2) 1
 
--- The family: its leading automaton is the automaton itself; the progress automaton of q remembers the state, and whether an
--- accepting one was entered since the start (`remembers` of proofs/BuchiPairs).
+-- The family: its leading automaton is the automaton itself; the progress automaton of q remembers the state, and
+-- whether an accepting one was entered since the start (`remembers` of proofs/BuchiPairs).
 abbrev pub from_buchi : Dba → Fdfa
 from_buchi D = record {
   letters = D.letters;

@@ -46,4 +46,5 @@ with_prefix period (word u) = with_period u (period u)
 -- The first lasso that passes, among prefixes of fewer than m letters and periods of 1 to k: the first prefix for which
 -- some period passes, with its first period.
 abbrev pub first_lasso_of : ℕ → ℕ → ℕ → (List ℕ → List ℕ → Bool) → Witness
-first_lasso_of s m k p = with_prefix (λ u. first_word s 1 k (p u)) (first_word s 0 m (λ u. is_found (first_word s 1 k (p u))))
+first_lasso_of s m k p = with_prefix (λ u. first_word s 1 k (p u))
+    (first_word s 0 m (λ u. is_found (first_word s 1 k (p u))))

@@ -80,8 +80,9 @@ pub record ReachedPair (F G : Fdfa) (x : ℕ) : Type 0 where
   pub first : walk F.step 0 by ≡ x / G.states
   pub second : walk G.step 0 by ≡ x % G.states
 
--- Where a family stands on a lasso that was found: the leading state after the prefix (02: waits), and where the progress automaton
--- of that state, from its start, ends after one turn of the period (02: ends); 0 where there is no lasso.
+-- Where a family stands on a lasso that was found: the leading state after the prefix (02: waits), and where the
+-- progress automaton of that state, from its start, ends after one turn of the period (02: ends); 0 where there is no
+-- lasso.
 pub record Standing : Type 0 where
   pub waits : ℕ
   pub ends : ℕ
@@ -126,7 +127,8 @@ pub record Accepted (F : Fdfa) (u v : List ℕ) : Type 0 where
 abbrev pub first_accepted : Fdfa → Witness
 first_accepted F = first_lasso_of F.letters F.states (F.states * widest F) (λ u v. normalized F u v && accepts F u v)
 
--- Empty, or the first accepted lasso that is normalized; with R, and where the family stands on it. There is no second family.
+-- Empty, or the first accepted lasso that is normalized; with R, and where the family stands on it. There is no second
+-- family.
 abbrev pub emptiness : Fdfa → Comparison
 emptiness F = record {
   reached = reached_states F.letters F.states F.step;

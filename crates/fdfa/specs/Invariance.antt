@@ -6,4 +6,5 @@ use Rattle.fdfa.specs.Acceptance.{accepts}
 
 -- Turn-proof (01: steady): further turns of the period, into the prefix or within the period, leave the verdict alone.
 abbrev pub TurnProof : Fdfa → Type 0
-TurnProof F = (u v : List ℕ) → Lasso F.letters u v → (a b : ℕ) → 0 < b → accepts F (u ++ power v a) (power v b) ≡ accepts F u v
+TurnProof F = (u v : List ℕ) → Lasso F.letters u v → (a b : ℕ) → 0 < b →
+    accepts F (u ++ power v a) (power v b) ≡ accepts F u v

@@ -1,5 +1,5 @@
--- The normalization of a lasso (002, Definition 3.1; 01: the closing numbers). That i and j exist and are `Smallest` is law
--- `normal` of proofs/Normal, and that they add up to at most n is `few-turns` there. Assumes nothing.
+-- The normalization of a lasso (002, Definition 3.1; 01: the closing numbers). That i and j exist and are `Smallest` is
+-- law `normal` of proofs/Normal, and that they add up to at most n is `few-turns` there. Assumes nothing.
 use Rattle.std.specs.Prelude.{◌≡◌, List, ◌++◌, ℕ, suc, ◌+◌, ◌≤◌, eqb, leb}
 use Rattle.slices.specs.Extremes.{least}
 use Rattle.fdfa.specs.Words.{power}
@@ -13,7 +13,8 @@ return_from n g i = suc (least n (λ j. eqb (g i) (g (i + suc j))))
 unfoldable pub returning : ℕ → (ℕ → ℕ) → ℕ
 returning n g = least n (λ i. leb (return_from n g i) n)
 
--- What the two are, of any numbers: g returns from i after j, and each of i and j is the smallest, by itself, among all.
+-- What the two are, of any numbers: g returns from i after j, and each of i and j is the smallest, by itself, among
+-- all.
 pub record Smallest (g : ℕ → ℕ) (i j : ℕ) : Type 0 where
   pub positive : 1 ≤ j
   pub same : g i ≡ g (i + j)

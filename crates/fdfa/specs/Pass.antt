@@ -1,6 +1,6 @@
--- The pass over a prefix (02, F-4): each letter is judged and walked before the next one is looked at, so that the pass may stop after
--- any letter and be taken up again from what it holds. What it comes to, for every word and every way to cut it, is said by the laws
--- of proofs/Pass. Assumes nothing.
+-- The pass over a prefix (02, F-4): each letter is judged and walked before the next one is looked at, so that the pass
+-- may stop after any letter and be taken up again from what it holds. What it comes to, for every word and every way to
+-- cut it, is said by the laws of proofs/Pass. Assumes nothing.
 use Rattle.std.specs.Prelude.{cond, List, [], ◌∷◌, ◌++◌, ℕ, ◌+◌, ◌≤◌, ◌<◌, ltb, length, get_or, take}
 use Rattle.fdfa.specs.Words.{Over}
 

@@ -38,8 +38,8 @@ pub fn read_labelled(
     }
 }
 
-// The lines of a word, as long as its first byte stands. Their numbers are stored where there is room for them, so that lines can be
-// counted with an empty slice.
+// The lines of a word, as long as its first byte stands. Their numbers are stored where there is room for them, so that
+// lines can be counted with an empty slice.
 pub fn read_lines(
     text: &[u8],
     at: usize,

@@ -165,7 +165,8 @@ pub fn read_rows(
     part: Part,
 ) -> Step
     requires { (at ≤ length text.now) × (count ≤ 1000) × (count * r.count ≤ length values.old) }
-    ensures { Reads (reading part text.now (each count (λ i. row (numbered r turn i))) at) values.old values.new result }
+    ensures { Reads (reading part text.now (each count
+        (λ i. row (numbered r turn i))) at) values.old values.new result }
 {
     let width = r.count;
     let mut p = at;

@@ -6,7 +6,8 @@ use Rattle.slices.specs.Filling.{filled}
 use Rattle.fdfa.specs.Family.{Fdfa, Lasso}
 use Rattle.fdfa.specs.Acceptance.{accepts}
 use Rattle.fdfa.specs.Inclusion as model
-use Rattle.fdfa.specs.Inclusion.{Counterexample, Accepted, Counts, Reached, ReachedPair, pairs, combinations, widest, comparison, emptiness}
+use Rattle.fdfa.specs.Inclusion.{Counterexample, Accepted, Counts, Reached, ReachedPair, pairs, combinations, widest}
+use Rattle.fdfa.specs.Inclusion.{comparison, emptiness}
 use Rattle.fdfa.specs.Invariance.{TurnProof}
 use Rattle.packed.specs.Layout.{decode}
 use Rattle.packed.specs.Faults.{sheet_fault, pair_fault}
@@ -29,9 +30,11 @@ lasso l = record { opening = l.opening; period = l.period }
 abbrev pub call_fault : Fault → model.Comparison → Slices → Fault
 call_fault start C l = start then room_fault C.witness (lasso l)
 
--- What a call says and leaves in the lent slices, where `start` is its refusal before the search, C its answer and `cells` what the
--- search needs: the lasso is written where both parts of it fit, and the cells are 0 from the search on.
-pub record Settled (start : Fault) (C : model.Comparison) (cells : ℕ) (before after : Slices) (r : Outcome) : Type 0 where
+-- What a call says and leaves in the lent slices, where `start` is its refusal before the search, C its answer and
+-- `cells` what the search needs: the lasso is written where both parts of it fit, and the cells are 0 from the search
+-- on.
+pub record Settled (start : Fault) (C : model.Comparison) (cells : ℕ) (before after : Slices)
+    (r : Outcome) : Type 0 where
   pub says : outcome_says r ≡ unless (call_fault start C before) (answer_of C)
   pub opening : after.opening ≡ filled (call_fault start C before) (prefix_of C.witness) before.opening
   pub period : after.period ≡ filled (call_fault start C before) (period_of C.witness) before.period
@@ -48,14 +51,15 @@ compare_cells b c = pairs (decode b) (decode c) + combinations (decode b) (decod
 abbrev pub compare_start : List ℕ → List ℕ → ℕ → Fault
 compare_start b c work = pair_fault b c then cells_fault (compare_cells b c) work
 
--- The third demand. R counts the pairs that prefixes of whatever length reach. Absent: no lasso, of whatever length, closes
--- in both, is accepted by the first and rejected by the second, and where both are turn_proof no lasso at all is accepted
--- by the first and rejected by the second. Found: the first of all those that close in both.
+-- The third demand. R counts the pairs that prefixes of whatever length reach. Absent: no lasso, of whatever length,
+-- closes in both, is accepted by the first and rejected by the second, and where both are turn_proof no lasso at all is
+-- accepted by the first and rejected by the second. Found: the first of all those that close in both.
 abbrev pub DecidesInclusion : Fdfa → Fdfa → Lent → Outcome → Type 0
 DecidesInclusion F G after (Absent z) =
     Counts (ReachedPair F G) (pairs F G) z.reached
     × ((u v : List ℕ) → Counterexample F G u v → ⊥)
-    × (TurnProof F → TurnProof G → (u v : List ℕ) → Lasso F.letters u v → accepts F u v ≡ true → accepts G u v ≡ false → ⊥)
+    × (TurnProof F → TurnProof G → (u v : List ℕ) → Lasso F.letters u v → accepts F u v ≡ true →
+    accepts G u v ≡ false → ⊥)
 DecidesInclusion F G after (Found z) =
     Counts (ReachedPair F G) (pairs F G) z.reached
     × model.First (Counterexample F G) (take z.prefix after.opening) (take z.period after.period)
@@ -63,7 +67,8 @@ DecidesInclusion F G after (Refused r) = Unit {0}
 
 -- The comparison of two sheets.
 pub record Compared (b c : List ℕ) (before after : Slices) (r : Outcome) : Type 0 where
-  pub settles : Settled (compare_start b c (length before.work)) (comparison (decode b) (decode c)) (compare_cells b c) before after r
+  pub settles : Settled (compare_start b c (length before.work)) (comparison (decode b) (decode c))
+      (compare_cells b c) before after r
   pub decides : DecidesInclusion (decode b) (decode c) (lasso after) r
 
 -- Emptiness: n + n × K cells, K the size of the largest progress automaton; before the search: the sheet, 22.
@@ -73,8 +78,8 @@ empty_cells b = (decode b).states + (decode b).states * widest (decode b)
 abbrev pub empty_start : List ℕ → ℕ → Fault
 empty_start b work = sheet_fault First b then cells_fault (empty_cells b) work
 
--- R counts the leading states that prefixes of whatever length reach. Absent: no lasso at all is accepted. Found: the first
--- that closes and is accepted.
+-- R counts the leading states that prefixes of whatever length reach. Absent: no lasso at all is accepted. Found: the
+-- first that closes and is accepted.
 abbrev pub DecidesEmptiness : Fdfa → Lent → Outcome → Type 0
 DecidesEmptiness F after (Absent z) =
     Counts (Reached F.letters F.step) F.states z.reached

@@ -1,5 +1,5 @@
--- The model's answer to a comparison, or to the test of emptiness, as the struct of the code, and what the code's enum says. Assumes
--- nothing.
+-- The model's answer to a comparison, or to the test of emptiness, as the struct of the code, and what the code's enum
+-- says. Assumes nothing.
 use Rattle.std.specs.Prelude.{Bool, true, false, length}
 use Rattle.slices.specs.Refusals.{Result, given, refused}
 use Rattle.fdfa.specs.Enumeration.{Witness, absent, lasso}

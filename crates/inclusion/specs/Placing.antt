@@ -26,5 +26,6 @@ LiesIn s l (search.Refused r) = Unit {0}
 
 abbrev pub placed_of : Fdfa → Fdfa → Lent → Reported → Outcome
 placed_of F G l (search.Absent z) = Absent (joined z (standings_of F G absent))
-placed_of F G l (search.Found z) = Found (joined z (standings_of F G (lasso (take z.prefix l.opening) (take z.period l.period))))
+placed_of F G l (search.Found z) = Found (joined z (standings_of F G
+    (lasso (take z.prefix l.opening) (take z.period l.period))))
 placed_of F G l (search.Refused r) = Refused r

@@ -18,7 +18,8 @@ use placing::placed;
 use slices::{Part, Refusal, narrow, refuse};
 pub use standing::Standing;
 
-// R, the lengths of the lasso that was written, and where each sheet stands on it; 0 where there is no lasso or no second sheet.
+// R, the lengths of the lasso that was written, and where each sheet stands on it; 0 where there is no lasso or no
+// second sheet.
 #[derive(Clone, Copy)]
 pub struct Comparison {
     pub reached: usize,
@@ -36,8 +37,9 @@ pub enum Outcome {
     Refused(Refusal),
 }
 
-// Whether the first sheet is contained in the second: whether every lasso that is normalized in both and accepted by the
-// first is accepted by the second. Otherwise the first that is not is written, and the answer says where both sheets stand on it.
+// Whether the first sheet is contained in the second: whether every lasso that is normalized in both and accepted by
+// the first is accepted by the second. Otherwise the first that is not is written, and the answer says where both
+// sheets stand on it.
 pub fn compare(
     first: &[u8],
     second: &[u8],
@@ -81,8 +83,8 @@ fn search_cells(
     placed(first, second, found, opening, period)
 }
 
-// The first accepted, normalized lasso: emptiness as inclusion in the family with one state everywhere that accepts nothing, and that
-// stands at 0 on every lasso.
+// The first accepted, normalized lasso: emptiness as inclusion in the family with one state everywhere that accepts
+// nothing, and that stands at 0 on every lasso.
 fn accepted_lasso(
     sheet: &[u8],
     sizes: Sizes,

@@ -31,8 +31,10 @@ pub fn placed(
     opening: &[u8],
     period: &[u8],
 ) -> Outcome
-    requires { Alike first.now second.now × LiesIn (letter_count first.now) (record { opening = opening.now; period = period.now }) found }
-    ensures { result ≡ placed_of (decode first.now) (decode second.now) (record { opening = opening.now; period = period.now }) found }
+    requires { Alike first.now second.now × LiesIn (letter_count first.now)
+        (record { opening = opening.now; period = period.now }) found }
+    ensures { result ≡ placed_of (decode first.now) (decode second.now)
+        (record { opening = opening.now; period = period.now }) found }
 {
     match found {
         Reported::Refused(r) => Outcome::Refused(r),

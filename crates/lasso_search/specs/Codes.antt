@@ -1,6 +1,7 @@
--- What the search for a lasso keeps: accepted loops at a leading state, tables of a family's steps, the leading states that were
--- found, and the first lasso by its codes. Only inner contracts and loops use these. Assumes nothing.
-use Rattle.std.specs.Prelude.{◌≡◌, Bool, true, cond, not, ◌&&◌, List, ◌⊎◌, ℕ, ◌+◌, ◌*◌, ◌-◌, ◌/◌, ◌%◌, ◌≤◌, ◌<◌, eqb, length, get_or, take, drop}
+-- What the search for a lasso keeps: accepted loops at a leading state, tables of a family's steps, the leading states
+-- that were found, and the first lasso by its codes. Only inner contracts and loops use these. Assumes nothing.
+use Rattle.std.specs.Prelude.{◌≡◌, Bool, true, cond, not, ◌&&◌, List, ◌⊎◌, ℕ, ◌+◌, ◌*◌, ◌-◌, ◌/◌, ◌%◌, ◌≤◌, ◌<◌, eqb}
+use Rattle.std.specs.Prelude.{length, get_or, take, drop}
 use Rattle.fdfa.specs.Family.{Fdfa, Closed}
 use Rattle.fdfa.specs.Inclusion.{Counts, Reached, Accepted}
 use Rattle.pairing.specs.declared.Beside.{Beside}
@@ -63,7 +64,8 @@ pub record Fresh (status : List ℕ) (n q k : ℕ) (ends : ℕ → Bool) : Type 
   pub long : length status ≡ k * n
   pub each : (x : ℕ) → x < k * n → get_or status x 0 ≡ fresh_at n q ends x
 
--- The pair y of progress states is marked in the first sheet and not in the second; what is read for that lies within the sheets.
+-- The pair y of progress states is marked in the first sheet and not in the second; what is read for that lies within
+-- the sheets.
 abbrev pub ends_at : List ℕ → List ℕ → Beside → ℕ → Bool
 ends_at b c m y = eqb (get_or b (m.first + y / m.width) 0) 1 && not (eqb (get_or c (m.second + y % m.width) 0) 1)
 
@@ -106,7 +108,8 @@ pub record Round (P : Fdfa) (front : List ℕ) (reached i : ℕ) : Type 0 where
   pub upto : i ≤ reached
   pub none : (j : ℕ) → j < i → (v : Word) → AcceptedPeriod P (state_at 0 front j) v → ⊥
 
--- The next code from `from` on whose state the search is prepared for, or none of those reached. The first n − 1 cells are as before.
+-- The next code from `from` on whose state the search is prepared for, or none of those reached. The first n − 1 cells
+-- are as before.
 pub record Next (P : Fdfa) (n reached from : ℕ) (rows status before work : List ℕ) (c : Candidate) : Type 0 where
   pub kept : take (n - 1) work ≡ take (n - 1) before
   pub later : from ≤ c.code
@@ -146,5 +149,7 @@ pub record Tells (front : ℕ) (work : List ℕ) (i h reached : ℕ) (before aft
   pub v : Word
   pub u_path : Path (take front work) i u
   pub v_path : Path (take (length work - front) (drop front work)) h v
-  pub says : reported_says r ≡ unless (room_fault (lasso (letters u) (letters v)) before) (report_of reached (lasso (letters u) (letters v)))
-  pub written : after ≡ lasso_written (room_fault (lasso (letters u) (letters v)) before) (lasso (letters u) (letters v)) before
+  pub says : reported_says r ≡ unless (room_fault (lasso (letters u) (letters v)) before)
+      (report_of reached (lasso (letters u) (letters v)))
+  pub written : after ≡ lasso_written (room_fault (lasso (letters u) (letters v)) before)
+      (lasso (letters u) (letters v)) before

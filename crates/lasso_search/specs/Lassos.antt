@@ -14,7 +14,8 @@ pub record Lent : Type 0 where
 abbrev pub room_fault : Witness → Lent → Fault
 room_fault absent l = sound
 room_fault (lasso u v) l =
-    when (ltb (length l.opening) (length u)) 23 Opening (length u) then when (ltb (length l.period) (length v)) 23 Loop (length v)
+    when (ltb (length l.opening) (length u)) 23 Opening (length u)
+    then when (ltb (length l.period) (length v)) 23 Loop (length v)
 
 abbrev pub prefix_of : Witness → List ℕ
 prefix_of absent = []

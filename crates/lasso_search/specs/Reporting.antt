@@ -1,5 +1,5 @@
--- What the search for the first lasso says, of inner functions: R, and none or the first accepted and normalized lasso of a family.
--- Assumes nothing.
+-- What the search for the first lasso says, of inner functions: R, and none or the first accepted and normalized lasso
+-- of a family. Assumes nothing.
 use Rattle.std.specs.Prelude.{◌≡◌, Bool, true, false, not, ◌&&◌, List, ℕ, length}
 use Rattle.slices.specs.Refusals.{Result, given, refused, unless}
 use Rattle.fdfa.specs.Family.{Fdfa}
@@ -12,7 +12,8 @@ use Rattle.lasso_search.specs.declared.Reported.{Reported}
 use Rattle.lasso_search.specs.declared.Reported.TheVariants.{Absent, Found, Refused}
 use Rattle.lasso_search.specs.Lassos.{Lent, room_fault, lasso_written}
 
--- The family whose accepted and normalized lassos are the counterexamples: marked where the first is and the second is not.
+-- The family whose accepted and normalized lassos are the counterexamples: marked where the first is and the second is
+-- not.
 abbrev pub difference : List ℕ → List ℕ → Fdfa
 difference b c = product (λ x y. x && not y) (decode b) (decode c)
 
@@ -23,7 +24,14 @@ pub record Report : Type 0 where
 
 abbrev pub report_of : ℕ → Witness → Report
 report_of r absent = record { none = true; numbers = record { reached = r; prefix = 0; period = 0 } }
-report_of r (lasso u v) = record { none = false; numbers = record { reached = r; prefix = length u; period = length v } }
+report_of r (lasso u v) = record {
+  none = false;
+  numbers = record {
+    reached = r;
+    prefix = length u;
+    period = length v;
+  };
+}
 
 -- The answer of the code, by cases.
 abbrev pub reported_says : Reported → Result Report
@@ -31,8 +39,8 @@ reported_says (Absent z) = given (record { none = true; numbers = z })
 reported_says (Found z) = given (record { none = false; numbers = z })
 reported_says (Refused r) = refused r
 
--- The answer for the family P: R counts the leading states that prefixes of whatever length reach, and the witness is none, or the
--- first of all its accepted and normalized lassos, which is written where both parts of it fit.
+-- The answer for the family P: R counts the leading states that prefixes of whatever length reach, and the witness is
+-- none, or the first of all its accepted and normalized lassos, which is written where both parts of it fit.
 pub record Reports (P : Fdfa) (before after : Lent) (r : Reported) : Type 0 where
   pub reached : ℕ
   pub witness : Witness

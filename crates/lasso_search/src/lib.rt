@@ -1,5 +1,5 @@
-// The first accepted, normalized lasso of the difference of two sheets: of their family of pairs, a pair being marked where the first
-// sheet's state is and the second's is not.
+// The first accepted, normalized lasso of the difference of two sheets: of their family of pairs, a pair being marked
+// where the first sheet's state is and the second's is not.
 #![tactic(auto)]
 
 mod setting; // setting.rt: where a period may end
@@ -55,7 +55,8 @@ pub fn first_lasso(
     period: &mut [u8],
     work: &mut [u64],
 ) -> Reported
-    requires { Alike first.now second.now × (sizes ≡ sizes_of first.now second.now) × (length work.old ≡ sizes.pairs + sizes.pairs * sizes.widest) }
+    requires { Alike first.now second.now × (sizes ≡ sizes_of first.now second.now) ×
+        (length work.old ≡ sizes.pairs + sizes.pairs * sizes.widest) }
     ensures reports { Reports (difference first.now second.now)
         (record { opening = opening.old; period = period.old })
         (record { opening = opening.new; period = period.new })

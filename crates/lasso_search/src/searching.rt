@@ -3,7 +3,8 @@ ghost use Rattle.std.specs.Prelude.{◌≡◌, Bool, true, false, ℕ, ◌+◌, 
 ghost use Rattle.search.specs.Words.{Word, ε, run, Over};
 ghost use Rattle.pairing.specs.Pairs.{Alike, leads_of, sizes_of};
 ghost use Rattle.lasso_search.specs.Reporting.{difference};
-ghost use Rattle.lasso_search.specs.Codes.{Tabulated, Fresh, Leads, Room, Round, Prepared, Next, CanFind, Started, Located};
+ghost use Rattle.lasso_search.specs.Codes.{Tabulated, Fresh, Leads, Room, Round, Prepared, Next, CanFind, Started};
+ghost use Rattle.lasso_search.specs.Codes.{Located};
 
 use crate::setting::set_status;
 use crate::{Candidate, Codes};
@@ -12,7 +13,8 @@ use search::Expansion;
 
 // Searches the leading states alone, the progress standing still; the number of those reached.
 fn reach(leads: &[u16], n: usize, letters: usize, status: &mut [u8], cells: &mut [u64]) -> usize
-    requires { ((f : ℕ → ℕ → ℕ) × Tabulated leads.now n letters f) × (0 < n) × (length status.old ≡ n) × (length cells.old ≡ n) }
+    requires { ((f : ℕ → ℕ → ℕ) × Tabulated leads.now n letters f) × (0 < n) × (length status.old ≡ n) ×
+        (length cells.old ≡ n) }
     ensures { (f : ℕ → ℕ → ℕ) → Tabulated leads.now n letters f → Leads f letters n (take (n - 1) cells.new) result }
 {
     search::refresh(status);
@@ -27,8 +29,10 @@ fn reach(leads: &[u16], n: usize, letters: usize, status: &mut [u8], cells: &mut
 
 // Whether some period leads the progress automata to an ending, the leading state standing still.
 fn can_end(rows: &[u16], letters: usize, count: usize, status: &mut [u8], cells: &mut [u64]) -> bool
-    requires { ((f : ℕ → ℕ → ℕ) × Tabulated rows.now count letters f) × ((e : ℕ → Bool) × Fresh status.old 1 0 count e) × (0 < count) × (count + 1 ≤ length cells.old) }
-    ensures { result ≡ false → (f : ℕ → ℕ → ℕ) (e : ℕ → Bool) → Tabulated rows.now count letters f → Fresh status.old 1 0 count e
+    requires { ((f : ℕ → ℕ → ℕ) × Tabulated rows.now count letters f) ×
+        ((e : ℕ → Bool) × Fresh status.old 1 0 count e) × (0 < count) × (count + 1 ≤ length cells.old) }
+    ensures { result ≡ false → (f : ℕ → ℕ → ℕ) (e : ℕ → Bool) → Tabulated rows.now count letters f →
+        Fresh status.old 1 0 count e
         → (v : Word) → Over letters v → (v ≡ ε → ⊥) → e (run f 0 v) ≡ true → ⊥ }
 {
     let still = [0u16; 32];
@@ -39,8 +43,8 @@ fn can_end(rows: &[u16], letters: usize, count: usize, status: &mut [u8], cells:
     }
 }
 
-// Makes the table and sets the status for the search from the pair q of leading states. Says how many pairs of progress states it has, or 0
-// where no period from q is accepted.
+// Makes the table and sets the status for the search from the pair q of leading states. Says how many pairs of progress
+// states it has, or 0 where no period from q is accepted.
 fn prepare(
     first: &[u8],
     second: &[u8],
@@ -70,8 +74,8 @@ fn prepare(
     count
 }
 
-// The next leading state, by codes from `from` on, that some period may end at, its table made and the status set. Its code is `reached` where
-// there is none.
+// The next leading state, by codes from `from` on, that some period may end at, its table made and the status set. Its
+// code is `reached` where there is none.
 fn next_candidate(
     first: &[u8],
     second: &[u8],
@@ -84,7 +88,8 @@ fn next_candidate(
     work: &mut [u64],
 ) -> Candidate
     requires alike { Alike first.now second.now × (t ≡ leads_of first.now second.now) }
-    requires room { Room (difference first.now second.now) n (length rows.old) (length status.old) (length work.old - (n - 1)) }
+    requires room { Room (difference first.now second.now) n (length rows.old) (length status.old)
+        (length work.old - (n - 1)) }
     requires round { Round (difference first.now second.now) (take (n - 1) work.old) reached from }
     ensures { Next (difference first.now second.now) n reached from
         rows.new status.new work.old work.new result }
@@ -120,16 +125,17 @@ fn start(
     status: &mut [u8],
     work: &mut [u64],
 ) -> usize
-    requires { (rows : ℕ) × CanFind first.now second.now t n (length leads.old) rows (length status.old) (length work.old) }
+    requires { (rows : ℕ) × CanFind first.now second.now t n (length leads.old) rows (length status.old)
+        (length work.old) }
     ensures { Started (difference first.now second.now) n t.letters leads.new work.new result }
 {
     pairing::tabulate(first, second, t, n, leads);
     reach(leads, n, t.letters, &mut status[..n], &mut work[..n])
 }
 
-// The first lasso, by the codes that the cells have for it: the pairs of leading states in the order of their first prefixes, and for
-// each the combinations in the order of their first periods. What is made for a pair stands in a function of its own that is called
-// twice, so that it takes no registers from the inner loop.
+// The first lasso, by the codes that the cells have for it: the pairs of leading states in the order of their first
+// prefixes, and for each the combinations in the order of their first periods. What is made for a pair stands in a
+// function of its own that is called twice, so that it takes no registers from the inner loop.
 fn find(
     first: &[u8],
     second: &[u8],
@@ -140,7 +146,8 @@ fn find(
     status: &mut [u8],
     work: &mut [u64],
 ) -> Codes
-    requires { CanFind first.now second.now t n (length leads.old) (length rows.old) (length status.old) (length work.old) }
+    requires { CanFind first.now second.now t n (length leads.old) (length rows.old) (length status.old)
+        (length work.old) }
     ensures { Located (difference first.now second.now) work.new result }
 {
     let front = n - 1;
@@ -180,8 +187,8 @@ fn find(
     out
 }
 
-// The search with small tables and room for 8,192 combinations; with tables for any sheets; and with room for as many combinations
-// as there can be.
+// The search with small tables and room for 8,192 combinations; with tables for any sheets; and with room for as many
+// combinations as there can be.
 fn find_small(first: &[u8], second: &[u8], t: Beside, n: usize, work: &mut [u64]) -> Codes
     requires { CanFind first.now second.now t n 2048 2048 8192 (length work.old) }
     ensures { Located (difference first.now second.now) work.new result }
@@ -241,7 +248,8 @@ fn find_many(first: &[u8], second: &[u8], t: Beside, n: usize, work: &mut [u64])
 
 // The first lasso by its codes. A player lends 8,192 cells, and needs no room for more combinations.
 pub fn locate(first: &[u8], second: &[u8], sizes: PairSizes, work: &mut [u64]) -> Codes
-    requires { Alike first.now second.now × (sizes ≡ sizes_of first.now second.now) × (length work.old ≡ sizes.pairs + sizes.pairs * sizes.widest) }
+    requires { Alike first.now second.now × (sizes ≡ sizes_of first.now second.now) ×
+        (length work.old ≡ sizes.pairs + sizes.pairs * sizes.widest) }
     ensures { Located (difference first.now second.now) work.new result }
 {
     let t = pairing::leads(first, second);

@@ -18,7 +18,8 @@ fn status_of(first: &[u8], second: &[u8], m: Beside, y: usize) -> u8
     2
 }
 
-// Sets the status of the combinations of n leading states and `count` pairs of progress states: 2 for those at the leading state q that end.
+// Sets the status of the combinations of n leading states and `count` pairs of progress states: 2 for those at the
+// leading state q that end.
 pub fn set_status(
     first: &[u8],
     second: &[u8],

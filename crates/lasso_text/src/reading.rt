@@ -1,4 +1,5 @@
-// The words of a text, read from left to right. A letter is stored where there is room for it, so that a text can be judged with empty slices.
+// The words of a text, read from left to right. A letter is stored where there is room for it, so that a text can be
+// judged with empty slices.
 ghost use Rattle.std.specs.Prelude.{◌≡◌, List, ℕ, ◌≤◌, length};
 ghost use Rattle.slices.specs.Refusals.{given};
 ghost use Rattle.format.specs.Lines.{lines_at};
@@ -23,7 +24,8 @@ fn letter() -> Column
 
 // What is read of a text whose lines end at a place, so many of each part.
 fn ended(text: &[u8], at: usize, prefix: usize, period: usize, part: Part) -> Lengths
-    ensures { (u v : List ℕ) → length u ≡ prefix → length v ≡ period → lengths_say result ≡ measured (ended part text.now u (given (record { values = v; next = at }))) }
+    ensures { (u v : List ℕ) → length u ≡ prefix → length v ≡ period →
+        lengths_say result ≡ measured (ended part text.now u (given (record { values = v; next = at }))) }
 {
     if at != text.len() {
         return Lengths::Refused(refuse(11, part, at));
@@ -37,7 +39,8 @@ fn ended(text: &[u8], at: usize, prefix: usize, period: usize, part: Part) -> Le
 // The lines of the period, after those of the prefix, to the end of the text.
 fn read_period(text: &[u8], at: usize, prefix: usize, period: &mut [u8], part: Part) -> Lengths
     requires { at ≤ length text.now }
-    ensures { PeriodRead part text.now (lines_at part text.now period_name (letter 32) at) prefix period.old period.new result }
+    ensures { PeriodRead part text.now (lines_at part text.now period_name
+        (letter 32) at) prefix period.old period.new result }
 {
     let lines = read_lines(text, at, b"loop ", letter(), period, part);
     match lines {

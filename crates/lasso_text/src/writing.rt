@@ -60,7 +60,8 @@ pub fn put_lasso(prefix: &[u8], period: &[u8], out: &mut [u8], at: usize) -> usi
 
 // Writes the text of a lasso into the out slice, from its start.
 pub fn write(prefix: &[u8], period: &[u8], out: &mut [u8]) -> Written
-    ensures { Fills (write_fault prefix.now period.now (length out.old)) (lasso_text_of prefix.now period.now) out.old out.new result }
+    ensures { Fills (write_fault prefix.now period.now (length out.old))
+        (lasso_text_of prefix.now period.now) out.old out.new result }
 {
     let letters = check_lasso(prefix, period, LETTERS);
     match letters {

@@ -9,7 +9,8 @@ use Rattle.packed.specs.Faults.{sheet_fault}
 use Rattle.membership.specs.declared.Judgement.{Judgement}
 use Rattle.membership.specs.declared.Judgement.TheVariants as judgement
 
--- The sheet's refusals, then those of the lasso: a letter of the prefix that the sheet has not, an empty period, a letter of the period.
+-- The sheet's refusals, then those of the lasso: a letter of the prefix that the sheet has not, an empty period, a
+-- letter of the period.
 unfoldable pub lasso_fault : List ℕ → List ℕ → List ℕ → Fault
 lasso_fault b u v = sheet_fault First b then letters_fault (letter_count b) u v
 
@@ -19,5 +20,6 @@ verdict_of b u v = unless (lasso_fault b u v) (verdict (decode b) u v)
 
 -- The answer of the code, by cases.
 abbrev pub says_of : Judgement → Result Verdict
-says_of (judgement.Given accepted i j state end) = given (record { accepted = accepted; i = i; j = j; state = state; end = end })
+says_of (judgement.Given accepted i j state end) = given
+    (record { accepted = accepted; i = i; j = j; state = state; end = end })
 says_of (judgement.Refused r) = refused r

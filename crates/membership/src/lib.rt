@@ -8,7 +8,8 @@ ghost use Rattle.packed.specs.Faults.{sizes_of};
 ghost use Rattle.prefix_pass.specs.Steps.{Stepping};
 ghost use Rattle.slices.specs.declared.Refusal.{Refusal};
 ghost use Rattle.membership.specs.Verdict.{verdict_of, says_of};
-ghost use Rattle.membership.specs.Steps.{checked_lasso, check_says, judged_lasso, turns_from, Turning, Returns, ended_of};
+ghost use Rattle.membership.specs.Steps.{checked_lasso, check_says, judged_lasso, turns_from, Turning, Returns};
+ghost use Rattle.membership.specs.Steps.{ended_of};
 
 use packed::{Sizes, Validity};
 use prefix_pass::{Held, pass_on, start};
@@ -68,8 +69,8 @@ fn check(table: &[u8], letters: usize, prefix: &[u8], period: &[u8]) -> Checked
     }
 }
 
-// Goes by the period from a state until a state comes again. `seen` has, for each state, one more than the turns after which it was
-// first there.
+// Goes by the period from a state until a state comes again. `seen` has, for each state, one more than the turns after
+// which it was first there.
 fn normalize(table: &[u8], state: usize, period: &[u8]) -> Normalization
     requires { Turning table.now state period.now }
     ensures { Returns (turns_from table.now state period.now) result }

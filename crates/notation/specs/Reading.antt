@@ -1,4 +1,5 @@
--- Reading a text from left to right, for any bytes: what is refused first is refused at the smallest place. Assumes nothing.
+-- Reading a text from left to right, for any bytes: what is refused first is refused at the smallest place. Assumes
+-- nothing.
 use Rattle.std.specs.Prelude.{◌≡◌, cond, List, [], ℕ, eqb, ltb, length}
 use Rattle.slices.specs.declared.Part.TheVariants.{First, Out, Seconds}
 use Rattle.slices.specs.Refusals.{Fault, ◌then◌, when, Result, given, refused, unless, mapped, fault_in}
@@ -20,7 +21,8 @@ pub record Numbers : Type 0 where
 abbrev pub ended : List ℕ → Blocks → Result Found → Result Numbers
 ended t b (refused r) = refused r
 ended t b (given f) =
-    cond (eqb f.next (length t)) (given (record { front = b.front; timings = b.timings; parts = f.values })) (refused_at 11 First f.next)
+    cond (eqb f.next (length t)) (given (record { front = b.front; timings = b.timings; parts = f.values }))
+    (refused_at 11 First f.next)
 
 abbrev pub onward : List ℕ → Result Blocks → Result Numbers
 onward t (refused r) = refused r
@@ -37,7 +39,11 @@ pub record Sheet : Type 0 where
   pub seconds : List ℕ
 
 abbrev pub sheet_of : Numbers → Sheet
-sheet_of v = record { level = level_in v.front; bytes = pack (family_of v.front v.parts); seconds = times_of v.front v.timings }
+sheet_of v = record {
+  level = level_in v.front;
+  bytes = pack (family_of v.front v.parts);
+  seconds = times_of v.front v.timings;
+}
 
 unfoldable pub sheet_in : List ℕ → Result Sheet
 sheet_in t = mapped sheet_of (numbers_of t)
@@ -49,7 +55,8 @@ said (refused r) = record { level = 0; bytes = []; seconds = [] }
 -- 21 where the out slice is too short, then where the seconds slice is.
 abbrev pub room_fault : Sheet → ℕ → ℕ → Fault
 room_fault x room cells =
-    when (ltb room (length x.bytes)) 21 Out (length x.bytes) then when (ltb cells (length x.seconds)) 21 Seconds (length x.seconds)
+    when (ltb room (length x.bytes)) 21 Out (length x.bytes)
+    then when (ltb cells (length x.seconds)) 21 Seconds (length x.seconds)
 
 -- The text's fault, and only then the room.
 abbrev pub read_fault : Result Sheet → ℕ → ℕ → Fault

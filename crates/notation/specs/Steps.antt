@@ -8,7 +8,8 @@ use Rattle.notation.specs.Reading.{Numbers, sheet_of, said, read_fault}
 
 -- The packed sheet of what was read fills the out slice, where there are enough cells for the seconds too.
 abbrev pub Packs : Result Numbers → ℕ → List ℕ → List ℕ → Written → Type 0
-Packs x cells old out r = Fills (read_fault (mapped sheet_of x) (length old) cells) (said (mapped sheet_of x)).bytes old out r
+Packs x cells old out r = Fills (read_fault (mapped sheet_of x) (length old) cells)
+    (said (mapped sheet_of x)).bytes old out r
 
 -- The blocks before the last, at the starts of two slices; what follows them begins at a place.
 pub record Opened (t front seconds : List ℕ) (at : ℕ) : Type 0 where

@@ -19,10 +19,11 @@ times_fault level w b room = seconds_fault (timed level (letter_count b)) w then
 
 -- A level that is neither 3 nor 4; the sheet's fault; the seconds; the out slice.
 unfoldable pub write_fault : ℕ → List ℕ → List ℕ → ℕ → Fault
-write_fault level w b room = when (outside 3 5 level) 10 First 0 then sheet_fault First b then times_fault level w b room
+write_fault level w b room = when (outside 3 5 level) 10 First 0 then sheet_fault First b
+    then times_fault level w b room
 
--- The text of a sheet with its level and its seconds, and which have one: at level 3 or 4 a valid sheet, with one cell from 1 to 999 for each
--- letter that has seconds, and no other.
+-- The text of a sheet with its level and its seconds, and which have one: at level 3 or 4 a valid sheet, with one cell
+-- from 1 to 999 for each letter that has seconds, and no other.
 abbrev pub sheet_text : Sheet → List ℕ
 sheet_text x = text_of x.level x.seconds x.bytes
 

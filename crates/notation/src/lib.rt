@@ -1,4 +1,5 @@
-// The sheet as text, at level three or four: the packed sheet and the seconds of a text, and the text of a packed sheet.
+// The sheet as text, at level three or four: the packed sheet and the seconds of a text, and the text of a packed
+// sheet.
 #![tactic(auto)]
 
 mod reading; // reading.rt: what a text says, in lent slices

@@ -13,7 +13,8 @@ use blocks::{fill, fill_seconds, read_blocks, read_progress, row_count, timed};
 use format::Step;
 use slices::{Part, Written, refuse, wide16};
 
-// The packed sheet of numbers that are all read, if nothing follows, and if there are `cells` cells for the seconds of m letters.
+// The packed sheet of numbers that are all read, if nothing follows, and if there are `cells` cells for the seconds of
+// m letters.
 fn pack_numbers(
     text: &[u8],
     at: usize,
@@ -25,8 +26,10 @@ fn pack_numbers(
     cells: usize,
     out: &mut [u8],
 ) -> Written
-    requires { Whole front.now parts.now × (s ≡ letters_in front.now) × (n ≡ states_in front.now) × (m ≡ timed (level_in front.now) s) }
-    ensures { (rows : List ℕ) → Packs (ended text.now (record { front = front.now; timings = rows; next = at }) (given (record { values = parts.now; next = at }))) cells out.old out.new result }
+    requires { Whole front.now parts.now × (s ≡ letters_in front.now) × (n ≡ states_in front.now) ×
+        (m ≡ timed (level_in front.now) s) }
+    ensures { (rows : List ℕ) → Packs (ended text.now (record { front = front.now; timings = rows; next = at })
+        (given (record { values = parts.now; next = at }))) cells out.old out.new result }
 {
     if at != text.len() {
         return Written::Refused(refuse(11, Part::First, at));
@@ -53,8 +56,10 @@ fn read_rest(
     cells: usize,
     out: &mut [u8],
 ) -> Written
-    requires { (at ≤ length text.now) × Fits front_format front.now × (s ≡ letters_in front.now) × (n ≡ states_in front.now) × (m ≡ timed (level_in front.now) s) }
-    ensures { (rows : List ℕ) → Packs (ended text.now (record { front = front.now; timings = rows; next = at }) (reading First text.now (parts_format front.now) at)) cells out.old out.new result }
+    requires { (at ≤ length text.now) × Fits front_format front.now × (s ≡ letters_in front.now) ×
+        (n ≡ states_in front.now) × (m ≡ timed (level_in front.now) s) }
+    ensures { (rows : List ℕ) → Packs (ended text.now (record { front = front.now; timings = rows; next = at })
+        (reading First text.now (parts_format front.now) at)) cells out.old out.new result }
 {
     let mut parts = [0u16; 35840];
     let step = read_progress(text, at, front, s, n, &mut parts);
@@ -94,8 +99,8 @@ fn read_on(
     }
 }
 
-// Reads the text of a sheet: the packed sheet to the start of the out slice and, at level four, the seconds of the letters to the start of
-// `seconds`. At level three that slice is neither judged nor changed.
+// Reads the text of a sheet: the packed sheet to the start of the out slice and, at level four, the seconds of the
+// letters to the start of `seconds`. At level three that slice is neither judged nor changed.
 pub fn read(text: &[u8], out: &mut [u8], seconds: &mut [u16]) -> Levelled
     ensures { SheetRead (sheet_in text.now) out.old seconds.old out.new seconds.new result }
 {

@@ -21,7 +21,8 @@ fn put_text(
 ) -> Written
     requires valid { Valid sheet.now × (s ≡ letter_count sheet.now) × (n ≡ state_count sheet.now) }
     requires le_level { (3 ≤ level) × (level < 5) × TimesFit (timed level s) seconds.now }
-    ensures { Fills (out_fault (text_of level seconds.now sheet.now) (length out.old)) (text_of level seconds.now sheet.now) out.old out.new result }
+    ensures { Fills (out_fault (text_of level seconds.now sheet.now) (length out.old))
+        (text_of level seconds.now sheet.now) out.old out.new result }
 {
     let need = put_sheet(level, sheet, s, n, seconds, &mut out[..0]);
     if out.len() < need {
@@ -40,8 +41,10 @@ fn put_timed(
     seconds: &[u16],
     out: &mut [u8],
 ) -> Written
-    requires { Valid sheet.now × (s ≡ letter_count sheet.now) × (n ≡ state_count sheet.now) × (3 ≤ level) × (level < 5) }
-    ensures { Fills (times_fault level seconds.now sheet.now (length out.old)) (text_of level seconds.now sheet.now) out.old out.new result }
+    requires { Valid sheet.now × (s ≡ letter_count sheet.now) × (n ≡ state_count sheet.now) × (3 ≤ level) ×
+        (level < 5) }
+    ensures { Fills (times_fault level seconds.now sheet.now (length out.old))
+        (text_of level seconds.now sheet.now) out.old out.new result }
 {
     let timing = check_seconds(seconds, timed(level, s));
     match timing {
@@ -50,10 +53,11 @@ fn put_timed(
     }
 }
 
-// Writes the text of a packed sheet at a level into the out slice, from its start. At level four the seconds of its letters are the first
-// cells of `seconds`; at level three these are not looked at.
+// Writes the text of a packed sheet at a level into the out slice, from its start. At level four the seconds of its
+// letters are the first cells of `seconds`; at level three these are not looked at.
 pub fn write(level: usize, sheet: &[u8], seconds: &[u16], out: &mut [u8]) -> Written
-    ensures { Fills (write_fault level seconds.now sheet.now (length out.old)) (text_of level seconds.now sheet.now) out.old out.new result }
+    ensures { Fills (write_fault level seconds.now sheet.now (length out.old))
+        (text_of level seconds.now sheet.now) out.old out.new result }
 {
     if is_outside(3, 5, level) {
         return Written::Refused(refuse(10, Part::First, 0));

@@ -1,5 +1,6 @@
 -- Numbers in a text: a run of digits, at most three, with no needless leading zero. Assumes nothing.
-use Rattle.std.specs.Prelude.{Bool, cond, ◌||◌, ◌&&◌, not, List, ℕ, zero, suc, ◌+◌, ◌*◌, ◌-◌, eqb, ltb, leb, length, get_or}
+use Rattle.std.specs.Prelude.{Bool, cond, ◌||◌, ◌&&◌, not, List, ℕ, zero, suc, ◌+◌, ◌*◌, ◌-◌, eqb, ltb, leb, length}
+use Rattle.std.specs.Prelude.{get_or}
 use Prim.Native.Char.{code}
 use Rattle.slices.specs.declared.Part.{Part}
 use Rattle.slices.specs.Scans.{first_outside_of}
@@ -27,7 +28,8 @@ misread part place = Refused (record { number = 11; part = part; place = place }
 unfoldable pub number_at_value : Part → List ℕ → ℕ → Number
 number_at_value part t at =
     cond (leb (length t) at) (misread part (length t))
-    (cond (malformed (run_of t at) (get_or t at 0)) (misread part at) (Good (value_of t at (run_of t at)) (at + run_of t at)))
+    (cond (malformed (run_of t at) (get_or t at 0)) (misread part at)
+    (Good (value_of t at (run_of t at)) (at + run_of t at)))
 
 -- The place after a number; the number's own where it is refused.
 abbrev pub place_after : Number → ℕ → ℕ

@@ -23,7 +23,8 @@ pub fn next<'a>(r: Reader<'a>) -> Number
 
 // The same text, past the number at the reader's place.
 pub fn past<'a>(r: Reader<'a>) -> Reader<'a>
-    ensures { (result.text ≡ r.entry.text) × (result.at ≡ place_after (number_at_value First r.entry.text.now r.entry.at) r.entry.at) }
+    ensures { (result.text ≡ r.entry.text) ×
+        (result.at ≡ place_after (number_at_value First r.entry.text.now r.entry.at) r.entry.at) }
 {
     let at = after_number(r.text, r.at);
     Reader { text: r.text, at }

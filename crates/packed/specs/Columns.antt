@@ -8,7 +8,8 @@ use Rattle.packed.specs.Layout.{table_step}
 abbrev pub column_step : List ℕ → ℕ → ℕ → ℕ
 column_step t q a = get_or t (32 * a + q) 0
 
--- Cell i, for an automaton of m states and s letters whose table in the sheet begins at a place; 0 where there is no such state.
+-- Cell i, for an automaton of m states and s letters whose table in the sheet begins at a place; 0 where there is no
+-- such state.
 abbrev pub column_cell : List ℕ → ℕ → ℕ → ℕ → ℕ → ℕ
 column_cell b at s m i = cond (ltb (i % 32) m) (table_step b at s (i % 32) (i / 32)) 0
 

@@ -5,7 +5,8 @@ use Rattle.slices.specs.declared.Part.TheVariants.{First, Second}
 use Rattle.fdfa.specs.Inclusion.{widest}
 use Rattle.slices.specs.Refusals.{Fault, sound, ◌then◌, when, Result, given, refused, unless}
 use Rattle.slices.specs.Scans.{outside, scan}
-use Rattle.packed.specs.Layout.{letter_count, state_count, size_of, leading_at, progress_at_value, marks_at, sheet_length, decode}
+use Rattle.packed.specs.Layout.{letter_count, state_count, size_of, leading_at, progress_at_value, marks_at}
+use Rattle.packed.specs.Layout.{sheet_length, decode}
 use Rattle.packed.specs.declared.Sizes.{Sizes}
 use Rattle.packed.specs.declared.Validity.{Validity}
 use Rattle.packed.specs.declared.Validity.TheVariants.{Valid, Refused}

@@ -4,7 +4,8 @@ ghost use Rattle.slices.specs.Extremes.{largest};
 ghost use Rattle.slices.specs.Refusals.{refused, unless};
 ghost use Rattle.slices.specs.Scans.{outside};
 ghost use Rattle.packed.specs.Layout.{size_of, sheet_length, Header};
-ghost use Rattle.packed.specs.Faults.{progress_fault, header_fault, tables_fault, sizes_of, checked, says_of, second_fault, checked_pair, pair_says};
+ghost use Rattle.packed.specs.Faults.{progress_fault, header_fault, tables_fault, sizes_of, checked, says_of};
+ghost use Rattle.packed.specs.Faults.{second_fault, checked_pair, pair_says};
 
 use crate::{Sizes, Validities, Validity, letters, progress_at, size, states};
 use slices::{Part, first_outside, is_outside, refuse, wide};

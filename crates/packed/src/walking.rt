@@ -1,5 +1,5 @@
-// A table by letter: cell 32 a + q has the next state of q by a. A step along a word is then one load, whose address waits for
-// the last state alone.
+// A table by letter: cell 32 a + q has the next state of q by a. A step along a word is then one load, whose address
+// waits for the last state alone.
 ghost use Rattle.std.specs.Prelude.{◌≡◌, ◌+◌, ◌*◌, ◌≤◌, ◌<◌, length, get_or};
 ghost use Rattle.fdfa.specs.Family.{walk};
 ghost use Rattle.packed.specs.Columns.{column_step, column_cell, columns_of, Walkable};

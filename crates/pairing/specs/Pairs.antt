@@ -1,11 +1,12 @@
--- Two packed sheets side by side: where the tables of two automata begin, the next pair of states, and the sizes of both.
--- Assumes nothing.
+-- Two packed sheets side by side: where the tables of two automata begin, the next pair of states, and the sizes of
+-- both. Assumes nothing.
 use Rattle.std.specs.Prelude.{◌≡◌, List, ℕ, ◌+◌, ◌*◌, ◌/◌, ◌%◌, ◌≤◌, ◌<◌, length}
 use Rattle.slices.specs.Refusals.{Result, given, refused}
 use Rattle.fdfa.specs.Family.{Closed}
 use Rattle.fdfa.specs.Boolean.{beside}
 use Rattle.fdfa.specs.Inclusion.{widest}
-use Rattle.packed.specs.Layout.{letter_count, state_count, size_of, leading_at, progress_at_value, marks_at, table_step, decode, Valid}
+use Rattle.packed.specs.Layout.{letter_count, state_count, size_of, leading_at, progress_at_value, marks_at, table_step}
+use Rattle.packed.specs.Layout.{decode, Valid}
 use Rattle.pairing.specs.declared.Beside.{Beside}
 use Rattle.pairing.specs.declared.PairSizes.{PairSizes}
 use Rattle.pairing.specs.declared.Sized.{Sized}
@@ -37,7 +38,12 @@ abbrev pub leads_of : List ℕ → List ℕ → Beside
 leads_of b c = record { first = leading_at b; second = leading_at c; letters = letter_count b; width = state_count c }
 
 abbrev pub progress_of : List ℕ → List ℕ → ℕ → ℕ → Beside
-progress_of b c p q = record { first = progress_at_value b p; second = progress_at_value c q; letters = letter_count b; width = size_of c q }
+progress_of b c p q = record {
+  first = progress_at_value b p;
+  second = progress_at_value c q;
+  letters = letter_count b;
+  width = size_of c q;
+}
 
 abbrev pub marks_of : List ℕ → List ℕ → ℕ → ℕ → Beside
 marks_of b c p q = record { first = marks_at b p; second = marks_at c q; letters = letter_count b; width = size_of c q }

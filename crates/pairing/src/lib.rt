@@ -1,5 +1,6 @@
-// Two packed sheets side by side: their sizes, where the tables and marks of a pair of automata begin, and the next pair of
-// states by a letter. The pair (p, q) has the number p × width + q, where the second automaton has `width` states.
+// Two packed sheets side by side: their sizes, where the tables and marks of a pair of automata begin, and the next
+// pair of states by a letter. The pair (p, q) has the number p × width + q, where the second automaton has `width`
+// states.
 #![tactic(auto)]
 
 mod tabulating; // tabulating.rt: the next pairs of many pairs, as one table
@@ -14,8 +15,8 @@ use packed::Validities;
 use slices::Refusal;
 pub use tabulating::tabulate;
 
-// Two automata side by side: where the tables, or the marks, of each begin in its sheet, the number of letters, and the size
-// of the second.
+// Two automata side by side: where the tables, or the marks, of each begin in its sheet, the number of letters, and the
+// size of the second.
 #[derive(Clone, Copy)]
 pub struct Beside {
     pub first: usize,
@@ -24,8 +25,8 @@ pub struct Beside {
     pub width: usize,
 }
 
-// The sizes of two sheets with the same letters: the leading states of each, the pairs of those (N), and the largest number
-// of pairs of progress states (K).
+// The sizes of two sheets with the same letters: the leading states of each, the pairs of those (N), and the largest
+// number of pairs of progress states (K).
 #[derive(Clone, Copy)]
 pub struct PairSizes {
     pub letters: usize,

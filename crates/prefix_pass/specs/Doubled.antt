@@ -1,4 +1,5 @@
--- A table by pairs of letters, as a pass over long parts reads it: cell 1024 a + 32 b + q has the state after a and b from q. Assumes nothing.
+-- A table by pairs of letters, as a pass over long parts reads it: cell 1024 a + 32 b + q has the state after a and b
+-- from q. Assumes nothing.
 use Rattle.std.specs.Prelude.{◌≡◌, cond, List, ℕ, ◌+◌, ◌*◌, ◌/◌, ◌%◌, ◌≤◌, ◌<◌, ltb, length, take, replicate}
 use Rattle.slices.specs.Filling.{written}
 use Rattle.slices.specs.Tables.{tab}
@@ -15,7 +16,8 @@ pair_cell t s i =
 unfoldable pub pairs_of : List ℕ → ℕ → List ℕ
 pairs_of t s = written (tab (1024 * s) (pair_cell t s)) (replicate 32768 0)
 
--- How far a pass by a table by letter went over a word, from a state: the letters passed are known, and it stands where they lead.
+-- How far a pass by a table by letter went over a word, from a state: the letters passed are known, and it stands where
+-- they lead.
 pub record Goes (t : List ℕ) (s q : ℕ) (w : List ℕ) (r : Reach) : Type 0 where
   pub within : r.passed ≤ length w
   pub below : r.state < 32

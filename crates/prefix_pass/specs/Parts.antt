@@ -1,4 +1,5 @@
--- What the call for a pass over a part of a prefix says, for any bytes as sheet and part and any held value. Assumes nothing.
+-- What the call for a pass over a part of a prefix says, for any bytes as sheet and part and any held value. Assumes
+-- nothing.
 use Rattle.std.specs.Prelude.{cond, List, [], ◌∷◌, ℕ, ltb}
 use Rattle.slices.specs.declared.Part.TheVariants.{First}
 use Rattle.slices.specs.Capped.{capped}
@@ -11,7 +12,8 @@ use Rattle.prefix_pass.specs.declared.Held.TheVariants as held
 use Rattle.prefix_pass.specs.declared.Passed.{Passed}
 use Rattle.prefix_pass.specs.declared.Passed.TheVariants as passed
 
--- A held value, for a family of n states: one in another state, which no pass over that family holds, has failed where it stands.
+-- A held value, for a family of n states: one in another state, which no pass over that family holds, has failed where
+-- it stands.
 abbrev pub held_in_value : ℕ → Pass → Pass
 held_in_value n (reached q i) = cond (ltb q n) (reached q i) (unknown i)
 held_in_value n (unknown i) = unknown i
@@ -26,7 +28,8 @@ abbrev pub passed_of : List ℕ → Pass → List ℕ → Result Pass
 passed_of b p w =
     unless (sheet_fault First b) (told (pass_over (letter_count b) (decode b).step (held_in_value (state_count b) p) w))
 
--- From what a pass over the parts before answered, over one more part; and over the parts that a prefix is cut into, one after the other.
+-- From what a pass over the parts before answered, over one more part; and over the parts that a prefix is cut into,
+-- one after the other.
 abbrev pub passed_next : List ℕ → Result Pass → List ℕ → Result Pass
 passed_next b (given p) w = passed_of b p w
 passed_next b (refused r) w = refused r

@@ -1,5 +1,5 @@
-// The pass over a prefix, which judges and walks it in one go over its letters. What the pass holds is a value, from which it goes on over
-// a further part of the prefix.
+// The pass over a prefix, which judges and walks it in one go over its letters. What the pass holds is a value, from
+// which it goes on over a further part of the prefix.
 #![tactic(auto)]
 
 mod pairs; // pairs.rt: long parts, two letters at a time
@@ -14,8 +14,8 @@ use packed::{Validity, columns, step};
 use pairs::pass_pairs;
 use slices::{Part, Refusal, sum, wide};
 
-// What the pass holds: the leading state reached and how many letters were passed, or where it failed: the position of the first unknown
-// letter, or the one that was held with a state which the sheet has not.
+// What the pass holds: the leading state reached and how many letters were passed, or where it failed: the position of
+// the first unknown letter, or the one that was held with a state which the sheet has not.
 #[derive(Clone, Copy)]
 pub enum Held {
     Reached { state: usize, at: usize },
@@ -67,8 +67,8 @@ fn pass_long(table: &[u8], letters: usize, state: usize, at: usize, part: &[u8])
     pass(table, letters, r.state, sum(at, from), &part[from..])
 }
 
-// The pass goes on over a part, by a table by letter. The table by pairs is worth making where the part has four letters or more for each
-// of its cells.
+// The pass goes on over a part, by a table by letter. The table by pairs is worth making where the part has four
+// letters or more for each of its cells.
 pub fn pass_on(table: &[u8], letters: usize, held: Held, part: &[u8]) -> Held
     requires { Stepping table.now letters × Within 32 (pass_says held) }
     ensures { pass_says result ≡ told (pass_over letters (column_step table.now) (pass_says held) part.now) }
@@ -99,8 +99,8 @@ fn held_in(states: usize, held: Held) -> Held
     }
 }
 
-// The pass goes on over a further part of the prefix (01: the opening), in the leading automaton of a sheet. One that is held in a state
-// which the sheet has not has failed where it stands.
+// The pass goes on over a further part of the prefix (01: the opening), in the leading automaton of a sheet. One that
+// is held in a state which the sheet has not has failed where it stands.
 pub fn go_on(sheet: &[u8], held: Held, part: &[u8]) -> Passed
     ensures { passed_says result ≡ passed_of sheet.now (pass_says held) part.now }
 {

@@ -1,5 +1,5 @@
-// Long parts, two letters at a time: a table by pairs of letters, in which cell 1024 a + 32 b + q has the state after a and b from q. A step
-// then takes the time of one load for two letters.
+// Long parts, two letters at a time: a table by pairs of letters, in which cell 1024 a + 32 b + q has the state after a
+// and b from q. A step then takes the time of one load for two letters.
 ghost use Rattle.std.specs.Prelude.{◌≡◌, false, ◌*◌, ◌<◌};
 ghost use Rattle.prefix_pass.specs.Steps.{Stepping};
 ghost use Rattle.prefix_pass.specs.Doubled.{pair_cell, pairs_of, Goes};

@@ -7,7 +7,8 @@ use Rattle.search.specs.Queue.{letter_at, parent_at}
 -- the word of a code, read off the cells
 pub data Path (cells : List ℕ) : ℕ → Word → Type 0 where
   at_root : Path cells 0 ε
-  at_step : {i p a : ℕ} {w : Word} → p ≤ i → p ≡ parent_at cells i → a ≡ letter_at cells i → Path cells p w → Path cells (suc i) (w · a)
+  at_step : {i p a : ℕ} {w : Word} → p ≤ i → p ≡ parent_at cells i → a ≡ letter_at cells i → Path cells p w →
+      Path cells (suc i) (w · a)
 
 pub record Readable (cells : List ℕ) (code : ℕ) : Type 0 where
   pub word : Word

@@ -1,8 +1,8 @@
 -- The memory of a search: its queue, 64 bits an entry, and a status for each state. Assumes nothing.
 use Rattle.std.specs.Prelude.{cond, List, [], ◌∷◌, ℕ, ◌+◌, ◌*◌, ◌-◌, ◌/◌, ◌%◌, eqb, get_or}
 
--- An entry: a state below 2^20, its row below 2^10 (the state's number over the width), the letter that led to it, below 2^5, and
--- the code of the state that it was reached from: 0 is the root, i + 1 is entry i.
+-- An entry: a state below 2^20, its row below 2^10 (the state's number over the width), the letter that led to it,
+-- below 2^5, and the code of the state that it was reached from: 0 is the root, i + 1 is entry i.
 abbrev pub entry : ℕ → ℕ → ℕ → ℕ → ℕ
 entry x y a p = x + 1048576 * (y + 1024 * (a + 32 * p))
 

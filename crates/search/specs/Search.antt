@@ -8,8 +8,8 @@ use Rattle.search.specs.Paths.{Path}
 use Rattle.search.specs.declared.Expansion.{Expansion}
 use Rattle.search.specs.declared.Expansion.TheVariants.{On, Ending}
 
--- What is searched: states that move by letters, from a root that counts as met at once (`lo` 0) or only once it is reached by a
--- letter (1). A state's status before it is met is 1, or 2 where the search ends.
+-- What is searched: states that move by letters, from a root that counts as met at once (`lo` 0) or only once it is
+-- reached by a letter (1). A state's status before it is met is 1, or 2 where the search ends.
 pub record Space : Type 0 where
   pub step : ℕ → ℕ → ℕ
   pub letters : ℕ
@@ -47,8 +47,8 @@ pub record Entry (P : Space) (W : ℕ → Word) (cells : List ℕ) (i : ℕ) : T
   pub word : W (suc i) ≡ W parent · letter
   pub stands : get_or cells i 0 ≡ entry (reach P (W (suc i))) (reach P (W (suc i)) / P.width) letter parent
 
--- `total` codes are found, each with its word; the codes below `head` are expanded, and of `head` the letters below b. No state that
--- was met ends the search.
+-- `total` codes are found, each with its word; the codes below `head` are expanded, and of `head` the letters below b.
+-- No state that was met ends the search.
 pub record Search (P : Space) (status cells : List ℕ) (total head b : ℕ) : Type 0 where
   pub W : ℕ → Word
   pub start : W 0 ≡ ε
@@ -61,7 +61,8 @@ pub record Search (P : Space) (status cells : List ℕ) (total head b : ℕ) : T
   pub inside : (j : ℕ) → j < total → reach P (W j) < P.states
   pub rising : (i j : ℕ) → i < j → j < total → W i ⊏ W j
   pub fence : (j : ℕ) → j < total → head < total → W j ⊏ W head · b
-  pub closed : (c a : ℕ) → c < total → a < P.letters → c * 32 + a < head * 32 + b → Hit P P.lo total W (P.step (reach P (W c)) a) (W c · a)
+  pub closed : (c a : ℕ) → c < total → a < P.letters → c * 32 + a < head * 32 + b →
+      Hit P P.lo total W (P.step (reach P (W c)) a) (W c · a)
   pub by : (x : ℕ) → x < P.states → get_or status x 0 ≡ 0 → (j : ℕ) × (P.lo ≤ j) × (j < total) × (reach P (W j) ≡ x)
   pub lit : (j : ℕ) → P.lo ≤ j → j < total → get_or status (reach P (W j)) 0 ≡ 0
   pub kept : (x : ℕ) → x < P.states → (get_or status x 0 ≡ 0 → ⊥) → get_or status x 0 ≡ P.fresh x
@@ -88,7 +89,8 @@ abbrev pub Explored : Space → List ℕ → List ℕ → Expansion → Type 0
 Explored P status cells (On total) = Search P status cells total total 0
 Explored P status cells (Ending code) = Ends P cells code
 
--- Two automata side by side by their tables, row after row: state y of `rows` and state r of `leads`, of n, have the number y × n + r.
+-- Two automata side by side by their tables, row after row: state y of `rows` and state r of `leads`, of n, have the
+-- number y × n + r.
 abbrev pub row_step : List ℕ → ℕ → ℕ → ℕ → ℕ
 row_step t s q a = get_or t (q * s + a) 0
 
@@ -120,7 +122,8 @@ joint leads rows n s root aim = record {
 }
 
 -- What the search has found, for an aim; and that there is such an aim.
-pub record Ready (leads rows : List ℕ) (n s root : ℕ) (status cells : List ℕ) (total head : ℕ) (aim : Aim) : Type 0 where
+pub record Ready (leads rows : List ℕ) (n s root : ℕ) (status cells : List ℕ) (total head : ℕ)
+    (aim : Aim) : Type 0 where
   pub tables : Tables leads rows n aim.rows s
   pub bounded : Bounded (joint leads rows n s root aim)
   pub leading : root < n

@@ -1,5 +1,5 @@
-// A breadth-first search over two automata side by side, which keeps its queue in lent cells: expanding a state by all letters, the
-// search to its end, and reading a state or its first word back.
+// A breadth-first search over two automata side by side, which keeps its queue in lent cells: expanding a state by all
+// letters, the search to its end, and reading a state or its first word back.
 #![tactic(auto)]
 
 mod reading; // reading.rt: a code's word, read back
@@ -39,8 +39,9 @@ pub fn state_of(cells: &[u64], code: usize, root: usize) -> usize
     place_of(cells, code, root) % 1048576
 }
 
-// Expands the code `head` by every letter in its order. Each next state is entered at the queue's tail, and the tail moves on by the
-// state's status, which is 0 once the state was met; a status of 2 ends the search. The next state is leads + width × rows.
+// Expands the code `head` by every letter in its order. Each next state is entered at the queue's tail, and the tail
+// moves on by the state's status, which is 0 once the state was met; a status of 2 ends the search. The next state is
+// leads + width × rows.
 pub fn expand(
     leads: &[u16],
     rows: &[u16],

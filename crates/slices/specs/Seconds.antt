@@ -6,7 +6,8 @@ use Rattle.slices.specs.declared.Timing.TheVariants.{Good, Refused}
 use Rattle.slices.specs.Refusals.{Fault, sound, fault, ◌then◌, when}
 use Rattle.slices.specs.Scans.{scan}
 
--- Of m letters: fewer cells than letters, then the first cell of a letter that is not from 1 to 999. Cells behind those are not judged.
+-- Of m letters: fewer cells than letters, then the first cell of a letter that is not from 1 to 999. Cells behind those
+-- are not judged.
 unfoldable pub seconds_fault : ℕ → List ℕ → Fault
 seconds_fault m w = when (ltb (length w) m) 21 Seconds m then scan 14 Seconds 1 1000 w 0 m
 

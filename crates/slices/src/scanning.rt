@@ -26,7 +26,8 @@ fn top(word: &[u8]) -> u8
     most
 }
 
-// Whether it is seen at once that none of `count` bytes from `at` on is outside: from the largest, which takes vector instructions.
+// Whether it is seen at once that none of `count` bytes from `at` on is outside: from the largest, which takes vector
+// instructions.
 fn is_inside(bytes: &[u8], low: usize, limit: usize, at: usize, count: usize) -> bool
     requires { at + count ≤ length bytes.now }
     ensures { result ≡ true → count ≡ first_outside_of low limit bytes.now at count }

@@ -1,5 +1,5 @@
-// Where two sheets stand on a lasso: for each the leading state after the prefix, and where the progress automaton of that state ends
-// after one turn of the period.
+// Where two sheets stand on a lasso: for each the leading state after the prefix, and where the progress automaton of
+// that state ends after one turn of the period.
 #![tactic(auto)]
 
 ghost use Rattle.std.specs.Prelude.{◌≡◌};
@@ -33,8 +33,8 @@ struct Pair {
     second: usize,
 }
 
-// Where two automata stand after the word, from their starts. Their tables are read where they lie: most lassos that are found are
-// short, and for these a copy by letter (packed::columns) would take longer than the walk.
+// Where two automata stand after the word, from their starts. Their tables are read where they lie: most lassos that
+// are found are short, and for these a copy by letter (packed::columns) would take longer than the walk.
 fn walk(first: &[u8], second: &[u8], t: Beside, word: &[u8]) -> Pair
     requires { WalksWithin first.now t.first t.letters word.now × WalksWithin second.now t.second t.letters word.now }
     ensures { result ≡ walked_of first.now second.now t word.now }

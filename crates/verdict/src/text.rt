@@ -32,7 +32,13 @@ fn put_verdict(
     end: usize,
     out: &mut [u8],
 ) -> usize
-    ensures { Stored out.old 0 (verdict_block (record { accepted = accepted; i = i; j = j; state = state; end = end })) out.new result × (result ≤ 128) }
+    ensures { Stored out.old 0 (verdict_block (record {
+      accepted = accepted;
+      i = i;
+      j = j;
+      state = state;
+      end = end;
+    })) out.new result × (result ≤ 128) }
 {
     let named = put_literal(b"verdict i j place end\n", out, 0);
     let judged = put_word(accepted, out, named);

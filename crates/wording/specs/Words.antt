@@ -1,5 +1,6 @@
 -- A refusal in words, for people: where it is, its number, and the sentence of that number. Assumes nothing.
-use Rattle.std.specs.Prelude.{Bool, cond, not, ◌&&◌, ◌||◌, List, [], ◌∷◌, ◌++◌, ℕ, zero, suc, ◌+◌, eqb, ltb, length, get_or}
+use Rattle.std.specs.Prelude.{Bool, cond, not, ◌&&◌, ◌||◌, List, [], ◌∷◌, ◌++◌, ℕ, zero, suc, ◌+◌, eqb, ltb, length}
+use Rattle.std.specs.Prelude.{get_or}
 use Prim.Native.Char.{code}
 use Prim.Native.String.{String}
 use Rattle.slices.specs.declared.Part.{Part}
@@ -95,7 +96,8 @@ file_of_value Seconds = 0
 -- A refusal of a file names it; any other names the program.
 abbrev pub culprit : List ℕ → File → File → Refusal → List ℕ
 culprit program one two r =
-    cond (eqb (file_of_value r.part) 1) (spot one r) (cond (eqb (file_of_value r.part) 2) (spot two r) (program ++ bytes ":"))
+    cond (eqb (file_of_value r.part) 1) (spot one r) (cond (eqb (file_of_value r.part) 2) (spot two r)
+    (program ++ bytes ":"))
 
 -- " refusal NUMBER: sentence" and a line feed
 abbrev pub reason : ℕ → List ℕ
@@ -145,4 +147,5 @@ part_words_of program one two r = cond (is_long_of r) (long_words two.name r) (r
 -- For a program whose second file is a show's text with m opening lines.
 unfoldable pub show_words_of : List ℕ → File → File → ℕ → Refusal → List ℕ
 show_words_of program one two m r =
-    cond (is_scene_of r) (two.name ++ line_place (scene_position_of m r) ++ reason r.number) (part_words_of program one two r)
+    cond (is_scene_of r) (two.name ++ line_place (scene_position_of m r) ++ reason r.number)
+    (part_words_of program one two r)
