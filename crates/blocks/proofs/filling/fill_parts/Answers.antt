@@ -1,89 +1,69 @@
 -- `blocks::filling::fill_parts` meets its contract. Assumes nothing.
 use mathlib.Core.Path.{◌≡◌, ap, ◌∙◌}
+use mathlib.Core.List.{List}
 use Prim.Native.Nat.{ℕ, ◌+◌, ◌*◌, ◌≤◌, ◌<◌}
 use native.Mathlib.Omega.{arith}
-use lib.ListN.{length}
-use Rattle.slices.specs.Tables.{rows}
+use lib.ListN.{length, get_or}
+use Rattle.slices.specs.Tables.{rows, sum}
 use Rattle.slices.proofs.Tables.{rows-within}
 use Rattle.packed.specs.Layout.{part_bytes}
 use Rattle.numbers.proofs.Stores.{stored-none-rows, stored_row, stored-length, stored-as}
 use Rattle.blocks.specs.Text.{letters_in, states_in, size_in}
 use Rattle.blocks.specs.Numbers.{family_of}
+use Rattle.blocks.specs.Values.{Readable}
 use Rattle.blocks.proofs.Measures.{front-few, size-read, size-place}
 use Rattle.blocks.proofs.Gathered.{Body, first_part, body, front-within}
 use borrow.Author.Rules.{rules}
 use Rattle.blocks.proofs.filling.fill_parts.Goals as goal
+
+module _ {front parts : List ℕ} {s n : ℕ} (h : Readable front parts × (s ≡ letters_in front) × (n ≡ states_in front)) where
+  few : (s ≤ 32) × (n ≤ 32) × (n * s ≤ 1024)
+  few = front-few front parts h.0 s n h.1 h.2
+
+  module _ {q : ℕ} (l : q < n) where
+    -- where the size of the part of q is read
+    place : (q * (s + 2) ≤ 1088) × (3 + q * (s + 2) + 1 < length front)
+    place =
+        let w = front-within front parts h.0 s h.1 n h.2 in
+        size-place front s q n l few.1 few.0 (omega (arith, w))
+
+    less : q < states_in front
+    less = omega (arith, l, h.2)
+
+    part : {k p : ℕ} → k ≡ get_or front (3 + q * (s + 2) + 1) 0 → p ≡ sum q (size_in front) * (letters_in front + 3) → Body front parts q k p s
+    part {k} {p} ek ep = body front parts h.0 s h.1 q k p less (ek ∙ size-read front s q h.1) ep
 
 pub loop-q-init : goal.loop-q-init
 loop-q-init c =
     (search rules, first_part (size_in c.args.front.now) (letters_in c.args.front.now + 3), stored-none-rows _ _ _)
 
 pub overflow_add-s : goal.overflow_add-s
-overflow_add-s c =
-    let few : (c.args.s ≤ 32) × (c.args.n ≤ 32) × (c.args.n * c.args.s ≤ 1024) =
-    front-few c.args.front.now c.args.parts.now c.requires.readable.0 c.args.s c.args.n c.requires.readable.1 c.requires.readable.2 in
-    omega (arith, few)
+overflow_add-s c = omega (arith, few c.requires.readable)
 
 pub overflow_mul-q : goal.overflow_mul-q
-overflow_mul-q c =
-    let few : (c.args.s ≤ 32) × (c.args.n ≤ 32) × (c.args.n * c.args.s ≤ 1024) =
-    front-few c.args.front.now c.args.parts.now c.requires.readable.0 c.args.s c.args.n c.requires.readable.1 c.requires.readable.2 in
-    let place : (c.loop-q.q * (c.args.s + 2) ≤ 1088) × (3 + c.loop-q.q * (c.args.s + 2) + 1 < length c.args.front.now) =
-    let w = front-within c.args.front.now c.args.parts.now c.requires.readable.0 c.args.s c.requires.readable.1 c.args.n c.requires.readable.2 in
-    size-place c.args.front.now c.args.s c.loop-q.q c.args.n c.loop-q-test.true few.1 few.0 (omega (arith, w)) in
-    omega (arith, place)
+overflow_mul-q c = omega (arith, place c.requires.readable c.loop-q-test.true)
 
 pub overflow_add-q : goal.overflow_add-q
-overflow_add-q c =
-    let few : (c.args.s ≤ 32) × (c.args.n ≤ 32) × (c.args.n * c.args.s ≤ 1024) =
-    front-few c.args.front.now c.args.parts.now c.requires.readable.0 c.args.s c.args.n c.requires.readable.1 c.requires.readable.2 in
-    let place : (c.loop-q.q * (c.args.s + 2) ≤ 1088) × (3 + c.loop-q.q * (c.args.s + 2) + 1 < length c.args.front.now) =
-    let w = front-within c.args.front.now c.args.parts.now c.requires.readable.0 c.args.s c.requires.readable.1 c.args.n c.requires.readable.2 in
-    size-place c.args.front.now c.args.s c.loop-q.q c.args.n c.loop-q-test.true few.1 few.0 (omega (arith, w)) in
-    omega (arith, place)
+overflow_add-q c = omega (arith, place c.requires.readable c.loop-q-test.true)
 
 pub overflow_add-q-in-loop-q : goal.overflow_add-q-in-loop-q
-overflow_add-q-in-loop-q c =
-    let few : (c.args.s ≤ 32) × (c.args.n ≤ 32) × (c.args.n * c.args.s ≤ 1024) =
-    front-few c.args.front.now c.args.parts.now c.requires.readable.0 c.args.s c.args.n c.requires.readable.1 c.requires.readable.2 in
-    let place : (c.loop-q.q * (c.args.s + 2) ≤ 1088) × (3 + c.loop-q.q * (c.args.s + 2) + 1 < length c.args.front.now) =
-    let w = front-within c.args.front.now c.args.parts.now c.requires.readable.0 c.args.s c.requires.readable.1 c.args.n c.requires.readable.2 in
-    size-place c.args.front.now c.args.s c.loop-q.q c.args.n c.loop-q-test.true few.1 few.0 (omega (arith, w)) in
-    omega (arith, place)
+overflow_add-q-in-loop-q c = omega (arith, place c.requires.readable c.loop-q-test.true)
 
 pub offset_bounds-front-q : goal.offset_bounds-front-q
-offset_bounds-front-q c =
-    let few : (c.args.s ≤ 32) × (c.args.n ≤ 32) × (c.args.n * c.args.s ≤ 1024) =
-    front-few c.args.front.now c.args.parts.now c.requires.readable.0 c.args.s c.args.n c.requires.readable.1 c.requires.readable.2 in
-    let place : (c.loop-q.q * (c.args.s + 2) ≤ 1088) × (3 + c.loop-q.q * (c.args.s + 2) + 1 < length c.args.front.now) =
-    let w = front-within c.args.front.now c.args.parts.now c.requires.readable.0 c.args.s c.requires.readable.1 c.args.n c.requires.readable.2 in
-    size-place c.args.front.now c.args.s c.loop-q.q c.args.n c.loop-q-test.true few.1 few.0 (omega (arith, w)) in
-    omega (arith, place)
+offset_bounds-front-q c = omega (arith, place c.requires.readable c.loop-q-test.true)
 
 pub bounds-front-q : goal.bounds-front-q
-bounds-front-q c =
-    let few : (c.args.s ≤ 32) × (c.args.n ≤ 32) × (c.args.n * c.args.s ≤ 1024) =
-    front-few c.args.front.now c.args.parts.now c.requires.readable.0 c.args.s c.args.n c.requires.readable.1 c.requires.readable.2 in
-    let place : (c.loop-q.q * (c.args.s + 2) ≤ 1088) × (3 + c.loop-q.q * (c.args.s + 2) + 1 < length c.args.front.now) =
-    let w = front-within c.args.front.now c.args.parts.now c.requires.readable.0 c.args.s c.requires.readable.1 c.args.n c.requires.readable.2 in
-    size-place c.args.front.now c.args.s c.loop-q.q c.args.n c.loop-q-test.true few.1 few.0 (omega (arith, w)) in
-    place.1
+bounds-front-q c = (place c.requires.readable c.loop-q-test.true).1
 
 pub fill_part-w-requires : goal.fill_part-w-requires
 fill_part-w-requires c =
-    let few : (c.args.s ≤ 32) × (c.args.n ≤ 32) × (c.args.n * c.args.s ≤ 1024) =
-    front-few c.args.front.now c.args.parts.now c.requires.readable.0 c.args.s c.args.n c.requires.readable.1 c.requires.readable.2 in
-    let less : c.loop-q.q < states_in (c.args.front.now) =
-    omega (arith, c.loop-q-test.true, c.requires.readable.2) in
-    let part : Body c.args.front.now c.args.parts.now c.loop-q.q c.wide16-k.result c.loop-q.p c.args.s =
-    body c.args.front.now c.args.parts.now c.requires.readable.0 c.args.s c.requires.readable.1 c.loop-q.q c.wide16-k.result c.loop-q.p less (c.wide16-k.ensures ∙ size-read c.args.front.now c.args.s c.loop-q.q c.requires.readable.1) c.loop-q.invariant.1 in
-    let b = part in
+    let b = part c.requires.readable c.loop-q-test.true c.wide16-k.ensures c.loop-q.invariant.1 in
     record {
       at_bound = (
         omega (arith, b.low),
-        few.0,
+        (few c.requires.readable).0,
         b.few,
-        omega (arith, c.loop-q.invariant.2.next, stored-length c.loop-q.invariant.2, rows-within (states_in c.args.front.now) (part_bytes (family_of c.args.front.now c.args.parts.now)) c.loop-q.q less, c.requires.parts_in_bounds, b.size),
+        omega (arith, c.loop-q.invariant.2.next, stored-length c.loop-q.invariant.2, rows-within (states_in c.args.front.now) (part_bytes (family_of c.args.front.now c.args.parts.now)) c.loop-q.q (less c.requires.readable c.loop-q-test.true), c.requires.parts_in_bounds, b.size),
         b.within,
       );
       by_index = b.steps;
@@ -91,34 +71,18 @@ fill_part-w-requires c =
     }
 
 pub overflow_add-p : goal.overflow_add-p
-overflow_add-p c =
-    let few : (c.args.s ≤ 32) × (c.args.n ≤ 32) × (c.args.n * c.args.s ≤ 1024) =
-    front-few c.args.front.now c.args.parts.now c.requires.readable.0 c.args.s c.args.n c.requires.readable.1 c.requires.readable.2 in
-    omega (arith, few)
+overflow_add-p c = omega (arith, few c.requires.readable)
 
 pub overflow_mul-p : goal.overflow_mul-p
-overflow_mul-p c =
-    let less : c.loop-q.q < states_in (c.args.front.now) =
-    omega (arith, c.loop-q-test.true, c.requires.readable.2) in
-    let part : Body c.args.front.now c.args.parts.now c.loop-q.q c.wide16-k.result c.loop-q.p c.args.s =
-    body c.args.front.now c.args.parts.now c.requires.readable.0 c.args.s c.requires.readable.1 c.loop-q.q c.wide16-k.result c.loop-q.p less (c.wide16-k.ensures ∙ size-read c.args.front.now c.args.s c.loop-q.q c.requires.readable.1) c.loop-q.invariant.1 in
-    omega (arith, part.product)
+overflow_mul-p c = omega (arith, (part c.requires.readable c.loop-q-test.true c.wide16-k.ensures c.loop-q.invariant.1).product)
 
 pub overflow_add-p-in-loop-q : goal.overflow_add-p-in-loop-q
 overflow_add-p-in-loop-q c =
-    let less : c.loop-q.q < states_in (c.args.front.now) =
-    omega (arith, c.loop-q-test.true, c.requires.readable.2) in
-    let part : Body c.args.front.now c.args.parts.now c.loop-q.q c.wide16-k.result c.loop-q.p c.args.s =
-    body c.args.front.now c.args.parts.now c.requires.readable.0 c.args.s c.requires.readable.1 c.loop-q.q c.wide16-k.result c.loop-q.p less (c.wide16-k.ensures ∙ size-read c.args.front.now c.args.s c.loop-q.q c.requires.readable.1) c.loop-q.invariant.1 in
-    let b = part in omega (arith, b.product, b.low)
+    let b = part c.requires.readable c.loop-q-test.true c.wide16-k.ensures c.loop-q.invariant.1 in omega (arith, b.product, b.low)
 
 pub loop-q-preserved : goal.loop-q-preserved
 loop-q-preserved c =
-    let less : c.loop-q.q < states_in (c.args.front.now) =
-    omega (arith, c.loop-q-test.true, c.requires.readable.2) in
-    let part : Body c.args.front.now c.args.parts.now c.loop-q.q c.wide16-k.result c.loop-q.p c.args.s =
-    body c.args.front.now c.args.parts.now c.requires.readable.0 c.args.s c.requires.readable.1 c.loop-q.q c.wide16-k.result c.loop-q.p less (c.wide16-k.ensures ∙ size-read c.args.front.now c.args.s c.loop-q.q c.requires.readable.1) c.loop-q.invariant.1 in
-    let b = part in
+    let b = part c.requires.readable c.loop-q-test.true c.wide16-k.ensures c.loop-q.invariant.1 in
     (search rules, b.next, stored_row c.loop-q.q (part_bytes (family_of c.args.front.now c.args.parts.now)) c.loop-q.invariant.2 (stored-as b.bytes c.fill_part-w.ensures))
 
 pub returns : goal.returns
