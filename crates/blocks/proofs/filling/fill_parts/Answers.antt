@@ -3,7 +3,7 @@ use mathlib.Core.Path.{◌≡◌, ap, ◌∙◌}
 use mathlib.Core.List.{List}
 use Prim.Native.Nat.{ℕ, ◌+◌, ◌*◌, ◌≤◌, ◌<◌}
 use native.Mathlib.Omega.{arith}
-use lib.ListN.{length, get_or}
+use lib.ListN.{get_or}
 use Rattle.slices.specs.Tables.{rows, sum}
 use Rattle.slices.proofs.Tables.{rows-within}
 use Rattle.packed.specs.Layout.{part_bytes}
@@ -11,8 +11,8 @@ use Rattle.numbers.proofs.Stores.{stored-none-rows, stored_row, stored-length, s
 use Rattle.blocks.specs.Text.{letters_in, states_in, size_in}
 use Rattle.blocks.specs.Numbers.{family_of}
 use Rattle.blocks.specs.Values.{Readable}
-use Rattle.blocks.proofs.Measures.{front-few, size-read, size-place}
-use Rattle.blocks.proofs.Gathered.{Body, first_part, body, front-within}
+use Rattle.blocks.proofs.Measures.{front-few, size-read}
+use Rattle.blocks.proofs.Gathered.{Body, first_part, body}
 use borrow.Author.Rules.{rules}
 use Rattle.blocks.proofs.filling.fill_parts.Goals as goal
 
@@ -21,12 +21,6 @@ module _ {front parts : List ℕ} {s n : ℕ} (h : Readable front parts × (s �
   few = front-few front parts h.0 s n h.1 h.2
 
   module _ {q : ℕ} (l : q < n) where
-    -- where the size of the part of q is read
-    place : (q * (s + 2) ≤ 1088) × (3 + q * (s + 2) + 1 < length front)
-    place =
-        let w = front-within front parts h.0 s h.1 n h.2 in
-        size-place front s q n l few.1 few.0 (omega (arith, w))
-
     less : q < states_in front
     less = omega (arith, l, h.2)
 
@@ -36,24 +30,6 @@ module _ {front parts : List ℕ} {s n : ℕ} (h : Readable front parts × (s �
 pub loop-q-init : goal.loop-q-init
 loop-q-init c =
     (search rules, first_part (size_in c.args.front.now) (letters_in c.args.front.now + 3), stored-none-rows _ _ _)
-
-pub overflow_add-s : goal.overflow_add-s
-overflow_add-s c = omega (arith, few c.requires.readable)
-
-pub overflow_mul-q : goal.overflow_mul-q
-overflow_mul-q c = omega (arith, place c.requires.readable c.loop-q-test.true)
-
-pub overflow_add-q : goal.overflow_add-q
-overflow_add-q c = omega (arith, place c.requires.readable c.loop-q-test.true)
-
-pub overflow_add-q-in-loop-q : goal.overflow_add-q-in-loop-q
-overflow_add-q-in-loop-q c = omega (arith, place c.requires.readable c.loop-q-test.true)
-
-pub offset_bounds-front-q : goal.offset_bounds-front-q
-offset_bounds-front-q c = omega (arith, place c.requires.readable c.loop-q-test.true)
-
-pub bounds-front-q : goal.bounds-front-q
-bounds-front-q c = (place c.requires.readable c.loop-q-test.true).1
 
 pub fill_part-w-requires : goal.fill_part-w-requires
 fill_part-w-requires c =
@@ -69,12 +45,6 @@ fill_part-w-requires c =
       by_index = b.steps;
       by_index_2 = b.marks;
     }
-
-pub overflow_add-p : goal.overflow_add-p
-overflow_add-p c = omega (arith, few c.requires.readable)
-
-pub overflow_mul-p : goal.overflow_mul-p
-overflow_mul-p c = omega (arith, (part c.requires.readable c.loop-q-test.true c.wide16-k.ensures c.loop-q.invariant.1).product)
 
 pub overflow_add-p-in-loop-q : goal.overflow_add-p-in-loop-q
 overflow_add-p-in-loop-q c =

@@ -41,21 +41,6 @@ module _ (front : List ℕ) (f : Fits front_format front) {s n q : ℕ} (es : s 
 pub loop-q-init : goal.loop-q-init
 loop-q-init c = partly_none _ _ _ _ _ _ c.requires.0
 
-pub overflow_add-s : goal.overflow_add-s
-overflow_add-s c = omega (arith, few_letters c.args.front.now c.requires.1 c.args.s c.args.n c.requires.2 c.requires.3)
-
-pub overflow_mul-q : goal.overflow_mul-q
-overflow_mul-q c = omega (arith, place c.args.front.now c.requires.1 c.requires.2 c.requires.3 c.loop-q-test.true)
-
-pub overflow_add-q : goal.overflow_add-q
-overflow_add-q c = omega (arith, place c.args.front.now c.requires.1 c.requires.2 c.requires.3 c.loop-q-test.true)
-
-pub overflow_add-q-in-loop-q : goal.overflow_add-q-in-loop-q
-overflow_add-q-in-loop-q c = omega (arith, place c.args.front.now c.requires.1 c.requires.2 c.requires.3 c.loop-q-test.true)
-
-pub offset_bounds-front-q : goal.offset_bounds-front-q
-offset_bounds-front-q c = omega (arith, place c.args.front.now c.requires.1 c.requires.2 c.requires.3 c.loop-q-test.true)
-
 pub bounds-front-q : goal.bounds-front-q
 bounds-front-q c = (place c.args.front.now c.requires.1 c.requires.2 c.requires.3 c.loop-q-test.true).1
 
@@ -84,12 +69,6 @@ returns-in-Refused c =
     let did = reads_as (part-rows c.args.text.now c.loop-q.p c.args.s c.loop-q.q (sized c.args.front.now c.requires.1 c.requires.2 c.requires.3 c.loop-q-test.true c.wide16-k.ensures) c.progress_row.ensures) c.read_rows-step.ensures in
     let back = same_len_mid c.loop-q.w (length c.loop-q.parts - c.loop-q.w) c.loop-q.parts c.read_rows-step.new.values did.same ∙ c.loop-q.invariant.begun.same in
     partly-refused c.loop-q.invariant c.loop-q-test.true (placed-refused (reading First c.args.text.now (parted c.args.s (size_in c.args.front.now) c.loop-q.q) c.loop-q.p) (sym did.says ∙ ap step_says c.in-Refused.is)) refl back
-
-pub overflow_add-w : goal.overflow_add-w
-overflow_add-w c = omega (arith, few_letters c.args.front.now c.requires.1 c.args.s c.args.n c.requires.2 c.requires.3)
-
-pub overflow_mul-w : goal.overflow_mul-w
-overflow_mul-w c = omega (arith, room c.args.front.now c.requires.1 c.requires.2 c.requires.3 c.loop-q-test.true c.wide16-k.ensures c.requires.0 c.requires.4 c.loop-q.invariant)
 
 pub overflow_add-w-in-loop-q : goal.overflow_add-w-in-loop-q
 overflow_add-w-in-loop-q c = omega (arith, room c.args.front.now c.requires.1 c.requires.2 c.requires.3 c.loop-q-test.true c.wide16-k.ensures c.requires.0 c.requires.4 c.loop-q.invariant)
