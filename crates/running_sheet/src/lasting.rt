@@ -14,8 +14,7 @@ pub fn sum_seconds(word: &[u8], seconds: &[u16]) -> usize
     let mut total = 0;
     let mut i = 0;
     while i < word.len() {
-        let more = wide16(seconds[wide(word[i])]);
-        total += more;
+        total += wide16(seconds[wide(word[i])]);
         i += 1;
     }
     total

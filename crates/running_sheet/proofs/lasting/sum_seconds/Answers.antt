@@ -24,15 +24,13 @@ bounds-seconds-wide c =
 pub overflow_add-total : goal.overflow_add-total
 overflow_add-total c =
     let known : c.wide.result < length c.args.seconds.now = omega (arith, c.wide.ensures, c.requires.known c.loop-i.i c.loop-i-test.true) in
-    let few : c.wide16-more.result < 1000 = omega (arith, c.wide16-more.ensures, c.requires.times c.wide.result known) in
-    omega (arith, few, c.loop-i.invariant.1, c.loop-i.invariant.2, c.requires.few)
+    omega (arith, c.requires.times c.wide.result known, c.loop-i.invariant.1, c.loop-i.invariant.2, c.requires.few)
 
 pub loop-i-preserved : goal.loop-i-preserved
 loop-i-preserved c =
-    let added : c.wide16-more.result ≡ seconds_at c.args.word.now c.args.seconds.now c.loop-i.i = c.wide16-more.ensures ∙ ap (λ (a : ℕ). get_or c.args.seconds.now a 0) c.wide.ensures in
+    let same : get_or c.args.seconds.now c.wide.result 0 ≡ seconds_at c.args.word.now c.args.seconds.now c.loop-i.i = ap (λ (a : ℕ). get_or c.args.seconds.now a 0) c.wide.ensures in
     let known : c.wide.result < length c.args.seconds.now = omega (arith, c.wide.ensures, c.requires.known c.loop-i.i c.loop-i-test.true) in
-    let few : c.wide16-more.result < 1000 = omega (arith, c.wide16-more.ensures, c.requires.times c.wide.result known) in
-    (omega (arith, c.loop-i.invariant.0, added, sum-next c.args.word.now c.args.seconds.now c.loop-i.i), omega (arith, few, c.loop-i.invariant.1), omega arith)
+    (omega (arith, c.loop-i.invariant.0, same, sum-next c.args.word.now c.args.seconds.now c.loop-i.i), omega (arith, c.requires.times c.wide.result known, c.loop-i.invariant.1), omega arith)
 
 pub returns : goal.returns
 unfolding lasting
