@@ -4,19 +4,39 @@ use mathlib.Core.List.{List}
 use Prim.Native.Nat.{ℕ, ◌+◌, ◌*◌, ◌≤◌}
 use native.Mathlib.Omega.{arith}
 use native.Mathlib.Nat.{mul-le-mul}
-use lib.ListN.{length, take, length-replicate}
+use lib.ListN.{length, take, replicate, length-replicate}
 use lib.Seq.{length-take-le}
 use Rattle.slices.specs.declared.Part.TheVariants.{First}
 use Rattle.slices.specs.Refusals.{given}
+use Rattle.slices.specs.Tables.{sum}
+use Rattle.format.specs.Format.{Fits}
 use Rattle.format.proofs.Following.{lost}
-use Rattle.blocks.specs.Text.{parts_format}
+use Rattle.blocks.specs.Text.{letters_in, states_in, size_in, parts_format}
 use Rattle.blocks.specs.Numbers.{Blocks}
 use Rattle.notation.specs.Reading.{ended}
-use Rattle.blocks.specs.Values.{Whole}
+use Rattle.blocks.specs.Values.{front_format, Whole}
 use Rattle.blocks.proofs.FrontRead.{few_letters, countable}
 use Rattle.blocks.proofs.PartsRead.{Closed, closed}
 use Rattle.notation.proofs.Outcomes.{packs-as, packs-refused}
 use Rattle.notation.proofs.reading.read_rest.Goals as goal
+
+-- the cells that the block's numbers take
+module _ (front : List ℕ) (f : Fits front_format front) {s n : ℕ} (es : s ≡ letters_in front) (en : n ≡ states_in front) where
+  few : s ≤ 32
+  few = few_letters front f s n es en
+
+  module _ {k : ℕ} (ek : (k ≡ sum (states_in front) (size_in front)) × (k ≤ 1024)) where
+    many : k * (s + 3) ≤ 35840
+    many = let w : s + 3 ≤ 35 = omega (arith, few) in mul-le-mul ek.1 w
+
+    room : (cells : List ℕ) → length cells ≡ length {A = ℕ} (replicate 35840 0) → k * (s + 3) ≤ length cells
+    room cells e = omega (arith, many, e ∙ length-replicate {A = ℕ} 35840 0)
+
+    taken : {t new : List ℕ} {at e : ℕ} (d : Closed t front new at e) → take (k * (s + 3)) new ≡ d.parts
+    taken d = d.here (λ i. ek.0 i * (es i + 3))
+
+abbrev blocks : List ℕ → ℕ → List ℕ → Blocks
+blocks front at rows = record { front = front; timings = rows; next = at }
 
 pub row_count-requires : goal.row_count-requires
 row_count-requires c =
@@ -24,61 +44,32 @@ row_count-requires c =
     record { s_value = k.0; by_index = k.1 }
 
 pub overflow_add-len : goal.overflow_add-len
-overflow_add-len c =
-    let few : c.args.s ≤ 32 =
-    few_letters c.args.front.now c.requires.1 c.args.s c.args.n c.requires.2 c.requires.3 in
-    omega (arith, few)
+overflow_add-len c = omega (arith, few c.args.front.now c.requires.1 c.requires.2 c.requires.3)
 
 pub overflow_mul-len : goal.overflow_mul-len
-overflow_mul-len c =
-    let few : c.args.s ≤ 32 =
-    few_letters c.args.front.now c.requires.1 c.args.s c.args.n c.requires.2 c.requires.3 in
-    let many : c.row_count.result * (c.args.s + 3) ≤ 35840 =
-    let w : c.args.s + 3 ≤ 35 = omega (arith, few) in mul-le-mul c.row_count.ensures.1 w in
-    omega (arith, many)
+overflow_mul-len c = omega (arith, many c.args.front.now c.requires.1 c.requires.2 c.requires.3 c.row_count.ensures)
 
 pub slice_bounds-parts-end : goal.slice_bounds-parts-end
-slice_bounds-parts-end c =
-    let few : c.args.s ≤ 32 =
-    few_letters c.args.front.now c.requires.1 c.args.s c.args.n c.requires.2 c.requires.3 in
-    let many : c.row_count.result * (c.args.s + 3) ≤ 35840 =
-    let w : c.args.s + 3 ≤ 35 = omega (arith, few) in mul-le-mul c.row_count.ensures.1 w in
-    let room : c.row_count.result * (c.args.s + 3) ≤ length (c.read_progress-step.new.parts) =
-    omega (arith, many, c.read_progress-step.ensures.same ∙ length-replicate {A = ℕ} 35840 0) in
-    room
+slice_bounds-parts-end c = room c.args.front.now c.requires.1 c.requires.2 c.requires.3 c.row_count.ensures c.read_progress-step.new.parts c.read_progress-step.ensures.same
 
 pub slice_bounds-pack_numbers-end : goal.slice_bounds-pack_numbers-end
 slice_bounds-pack_numbers-end c =
-    let few : c.args.s ≤ 32 =
-    few_letters c.args.front.now c.requires.1 c.args.s c.args.n c.requires.2 c.requires.3 in
-    let many : c.row_count.result * (c.args.s + 3) ≤ 35840 =
-    let w : c.args.s + 3 ≤ 35 = omega (arith, few) in mul-le-mul c.row_count.ensures.1 w in
-    let room : c.row_count.result * (c.args.s + 3) ≤ length (c.read_progress-step.new.parts) =
-    omega (arith, many, c.read_progress-step.ensures.same ∙ length-replicate {A = ℕ} 35840 0) in
-    sym (length-take-le _ _ room)
+    sym (length-take-le _ _ (room c.args.front.now c.requires.1 c.requires.2 c.requires.3 c.row_count.ensures c.read_progress-step.new.parts c.read_progress-step.ensures.same))
 
 pub pack_numbers-requires : goal.pack_numbers-requires
 pack_numbers-requires c =
-    let third : Closed c.args.text.now c.args.front.now c.read_progress-step.new.parts c.args.at c.in-Next.e =
-    closed c.requires.0 c.requires.1 c.read_progress-step.ensures c.in-Next.is in
-    let taken : take (c.row_count.result * (c.args.s + 3)) c.read_progress-step.new.parts ≡ third.parts =
-    third.here (λ i. c.row_count.ensures.0 i * (c.requires.2 i + 3)) in
-    (subst (Whole c.args.front.now) (sym taken) third.whole, c.requires.2, c.requires.3, c.requires.4)
+    let third = closed c.requires.0 c.requires.1 c.read_progress-step.ensures c.in-Next.is in
+    let whole = subst (Whole c.args.front.now) (sym (taken c.args.front.now c.requires.1 c.requires.2 c.requires.3 c.row_count.ensures third)) third.whole in
+    (whole, c.requires.2, c.requires.3, c.requires.4)
 
 pub returns-in-Refused : goal.returns-in-Refused
 returns-in-Refused c =
-    let blocks : List ℕ → Blocks =
-    λ rows. record { front = c.args.front.now; timings = rows; next = c.args.at } in
     λ rows.
-    packs-refused c.args.out.now c.args.cells (ap (ended c.args.text.now (blocks rows)) (lost First c.args.text.now (parts_format c.args.front.now) c.args.at c.read_progress-step.ensures c.in-Refused.is))
+    packs-refused c.args.out.now c.args.cells (ap (ended c.args.text.now (blocks c.args.front.now c.args.at rows)) (lost First c.args.text.now (parts_format c.args.front.now) c.args.at c.read_progress-step.ensures c.in-Refused.is))
 
 pub returns-in-Next : goal.returns-in-Next
 returns-in-Next c =
-    let third : Closed c.args.text.now c.args.front.now c.read_progress-step.new.parts c.args.at c.in-Next.e =
-    closed c.requires.0 c.requires.1 c.read_progress-step.ensures c.in-Next.is in
-    let taken : take (c.row_count.result * (c.args.s + 3)) c.read_progress-step.new.parts ≡ third.parts =
-    third.here (λ i. c.row_count.ensures.0 i * (c.requires.2 i + 3)) in
-    let blocks : List ℕ → Blocks =
-    λ rows. record { front = c.args.front.now; timings = rows; next = c.args.at } in
+    let third = closed c.requires.0 c.requires.1 c.read_progress-step.ensures c.in-Next.is in
+    let here = third.says ∙ ap (λ (l : List ℕ). given (record { values = l; next = c.in-Next.e })) (sym (taken c.args.front.now c.requires.1 c.requires.2 c.requires.3 c.row_count.ensures third)) in
     λ rows.
-    packs-as c.args.cells (ap (ended c.args.text.now (blocks rows)) (third.says ∙ ap (λ (l : List ℕ). given (record { values = l; next = c.in-Next.e })) (sym taken))) (c.pack_numbers.ensures rows)
+    packs-as c.args.cells (ap (ended c.args.text.now (blocks c.args.front.now c.args.at rows)) here) (c.pack_numbers.ensures rows)
