@@ -2,7 +2,8 @@
 use mathlib.Core.Path.{◌≡◌, refl, ap, sym}
 use mathlib.Core.Bool.{Bool, true, false}
 use mathlib.Core.List.{List}
-use Prim.Native.Nat.{ℕ, ◌≤◌}
+use Prim.Native.Nat.{ℕ, ◌+◌, ◌≤◌, ◌<◌}
+use native.Mathlib.Omega.{arith}
 use lib.ListN.{length}
 use Rattle.slices.specs.declared.Refusal.{Refusal}
 use Rattle.fdfa.specs.Acceptance.{Verdict}
@@ -13,12 +14,16 @@ use Rattle.membership.specs.declared.Judgement.{Judgement}
 use Rattle.membership.specs.declared.Judgement.TheVariants as judgement
 use Rattle.membership.specs.Verdict.{says_of}
 use Rattle.console.specs.Printed.{Shows, refusal_text_of}
-use Rattle.console.proofs.Printed.{shows-as, stored-shows}
+use Rattle.console.proofs.Printed.{field-few, shows-as, stored-shows}
 use Rattle.verdict.specs.Text.{title, word, verdict_block, verdict_text_of}
 
 pub word-long : (accepted : Bool) → length (word accepted) ≡ 9
 word-long true = refl
 word-long false = refl
+
+-- how far a field reaches
+pub field-ends : {old new : List ℕ} {at r : ℕ} (n e : ℕ) → n < 18446744073709551616 → Stored old at (field n e) new r → r ≤ at + 21
+field-ends n e h s = omega (arith, s.next, field-few n e h)
 
 -- the block, field by field
 pub block-stored : {old o₁ o₂ o₃ o₄ o₅ new : List ℕ} {p₁ p₂ p₃ p₄ p₅ r : ℕ} (x : Verdict) → Stored old 0 title o₁ p₁ → Stored o₁ p₁ (word x.accepted) o₂ p₂
