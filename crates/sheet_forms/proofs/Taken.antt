@@ -27,5 +27,6 @@ module _ (x : Result (List ℕ)) {old out : List ℕ} {r : Written} (h : FillsWi
       (f.0, y.1 ∙ ap given (sym (ap bytes_from y.1) ∙ sym f.1))
 
 -- the form in which the file was packed is the file's
-pub packed_as : (part : Part) (b : List ℕ) {f g : Form} {old out : List ℕ} {r : Written} → f ≡ g → FillsWith (sheet_as f part b) old out r → FillsWith (sheet_as g part b) old out r
+pub packed_as : (part : Part) (b : List ℕ) {f g : Form} {old out : List ℕ} {r : Written} → f ≡ g → FillsWith (sheet_as f part b) old out r
+    → FillsWith (sheet_as g part b) old out r
 packed_as part b e h = result_as (ap (λ (x : Form). sheet_as x part b) e) h
