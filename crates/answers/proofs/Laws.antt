@@ -1,4 +1,6 @@
 -- A number's bytes say the number, and two answers byte for byte. Assumes nothing.
+use Rattle.slices.specs.declared.Reason.TheVariants.{TooLittleRoom}
+use Rattle.std.specs.Prelude.{Ok, Err}
 use mathlib.Core.Path.{◌≡◌, refl, ap, sym, ◌∙◌}
 use mathlib.Core.List.{List, [], ◌∷◌, ◌++◌}
 use Prim.Native.Nat.{ℕ, zero, suc, ◌+◌, ◌*◌, ◌/◌, ◌%◌, ◌^◌, ◌<◌}
@@ -7,7 +9,6 @@ use native.Mathlib.Nat.{pow-suc, mul_comm, mul_assoc, mod-one, mod-eq_of_lt}
 use lib.Arith.{mod-mul}
 use lib.ListN.{length}
 use Rattle.slices.specs.declared.Part.TheVariants.{Out}
-use Rattle.slices.specs.Refusals.{given, refused}
 use Rattle.slices.specs.Tables.{tab, rows}
 use Rattle.slices.proofs.Tables.{length-tab}
 use Rattle.answers.specs.Layout.{number_bytes, number_said, layout, numbers_of, padded}
@@ -41,12 +42,12 @@ pub number-said : (x : ℕ) → x < 256 ^ 8 → number_said (number_bytes x) ≡
 number-said x h = said-mod x 8 ∙ mod-eq_of_lt h
 
 -- 8 cells filled; 21 of the out slice, 258 cells needed
-pub eight-filled : layout (padded 3 (numbers_of (λ n. n ∷ []) (given 8)))
+pub eight-filled : layout (padded 3 (numbers_of (λ n. n ∷ []) (Ok 8)))
     ≡ 0 ∷ 0 ∷ 0 ∷ 0 ∷ 0 ∷ 0 ∷ 0 ∷ 0 ∷ 8 ∷ 0 ∷ 0 ∷ 0 ∷ 0 ∷ 0 ∷ 0 ∷ 0 ∷ 0 ∷ 0 ∷ 0 ∷ 0 ∷ 0 ∷ 0 ∷ 0 ∷ 0 ∷ []
 unfolding tab rows
 eight-filled = refl
 
-pub out-too-short : layout (padded 3 (numbers_of {A = ℕ} (λ n. n ∷ []) (refused (record { number = 21; part = Out; place = 258 }))))
+pub out-too-short : layout (padded 3 (numbers_of {A = ℕ} (λ n. n ∷ []) (Err (record { reason = TooLittleRoom; part = Out; place = 258 }))))
     ≡ 21 ∷ 0 ∷ 0 ∷ 0 ∷ 0 ∷ 0 ∷ 0 ∷ 0 ∷ 4 ∷ 0 ∷ 0 ∷ 0 ∷ 0 ∷ 0 ∷ 0 ∷ 0 ∷ 2 ∷ 1 ∷ 0 ∷ 0 ∷ 0 ∷ 0 ∷ 0 ∷ 0 ∷ []
 unfolding tab rows
 out-too-short = refl

@@ -1,12 +1,13 @@
 -- What a call leaves behind, by whether the answer slice is long enough. Assumes nothing.
+use Rattle.std.specs.Prelude.{Result}
+use Rattle.slices.specs.declared.Refusal.{Refusal}
 use mathlib.Core.Path.{◌≡◌, ap, sym, ◌∙◌}
 use mathlib.Core.Bool.{Bool, cond}
 use mathlib.Core.List.{List, [], ◌∷◌}
 use Prim.Native.Nat.{ℕ, ◌*◌, ◌≤◌, ◌<◌}
 use lib.ListN.{length}
 use borrow.Author.Tests.{lt-ltb, le-ltb}
-use Rattle.slices.specs.declared.Written.{Written}
-use Rattle.slices.specs.Refusals.{Fault, Result, written_says}
+use Rattle.slices.specs.Refusals.{Fault}
 use Rattle.slices.specs.Filling.{written, filled, Fills}
 use Rattle.answers.specs.Layout.{layout, numbers_of, padded, unless_short, Told, FillTold}
 
@@ -37,12 +38,12 @@ module _ (f : Fault) (new out answer : List ℕ) where
   pub fill-short : length answer < 24 → FillTold f new out answer out answer 0
   fill-short h = record { tells = told-short 3 _ answer h; cells = short-old 3 answer out (filled f new out) h }
 
-  pub fill-long : {w : Written} {stored out' answer' : List ℕ} {r : ℕ} → 24 ≤ length answer
+  pub fill-long : {w : Result ℕ Refusal} {stored out' answer' : List ℕ} {r : ℕ} → 24 ≤ length answer
       → Fills f new out out' w
-      → stored ≡ padded 3 (numbers_of (λ n. n ∷ []) (written_says w))
+      → stored ≡ padded 3 (numbers_of (λ n. n ∷ []) w)
       → (r ≡ 1) × (answer' ≡ written (layout stored) answer)
       → FillTold f new out answer out' answer' r
   fill-long h F s t = record {
-    tells = told-long 3 _ answer h (s ∙ ap (λ (x : Result ℕ). padded 3 (numbers_of (λ n. n ∷ []) x)) F.says) t;
+    tells = told-long 3 _ answer h (s ∙ ap (λ (x : Result ℕ Refusal). padded 3 (numbers_of (λ n. n ∷ []) x)) F.says) t;
     cells = F.cells ∙ long-new 3 answer out (filled f new out) h;
   }

@@ -1,9 +1,11 @@
 -- The answer slice of the calls for C (docs/ANSWER.md): what a call says, as numbers of 8 bytes each, low byte first.
 -- Assumes nothing.
+use Rattle.std.specs.Prelude.{Result, Ok, Err}
+use Rattle.slices.specs.declared.Refusal.{Refusal}
 use Rattle.std.specs.Prelude.{◌≡◌, cond, List, [], ◌∷◌, ℕ, ◌+◌, ◌*◌, ◌/◌, ◌%◌, ◌^◌, ltb, length, get_or}
 use Rattle.slices.specs.declared.Part.{Part}
 use Rattle.slices.specs.declared.Part.TheVariants.{First, Second, Opening, Loop, Out, Work, Cursor, Seconds}
-use Rattle.slices.specs.Refusals.{Fault, Result, given, refused, unless}
+use Rattle.slices.specs.Refusals.{Fault, number_of, unless}
 use Rattle.slices.specs.Filling.{written, filled}
 use Rattle.slices.specs.Tables.{tab, rows}
 
@@ -28,10 +30,14 @@ part_number_of Work = 5
 part_number_of Cursor = 6
 part_number_of Seconds = 7
 
--- A result as numbers: 0 and those of the answer, or number, part and place of the refusal.
-abbrev pub numbers_of : {A : Type 0} → (A → List ℕ) → Result A → List ℕ
-numbers_of f (given a) = 0 ∷ f a
-numbers_of f (refused r) = r.number ∷ part_number_of r.part ∷ r.place ∷ []
+-- A refusal as numbers: its number, its part and its place.
+abbrev pub refusal_numbers_of : Refusal → List ℕ
+refusal_numbers_of r = number_of r.reason ∷ part_number_of r.part ∷ r.place ∷ []
+
+-- A result as numbers: 0 and those of the answer, or those of the refusal.
+abbrev pub numbers_of : {A : Type 0} → (A → List ℕ) → Result A Refusal → List ℕ
+numbers_of f (Ok a) = 0 ∷ f a
+numbers_of f (Err r) = refusal_numbers_of r
 
 -- So many numbers: 0 behind those that there are.
 abbrev pub padded : ℕ → List ℕ → List ℕ

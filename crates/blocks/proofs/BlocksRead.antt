@@ -1,4 +1,5 @@
 -- The blocks before the last, one after the other, as the code reads them into two slices. Assumes nothing.
+use Rattle.std.specs.Prelude.{Result, Ok, Err}
 use mathlib.Core.Path.{◌≡◌, refl, ap, sym, subst, ◌∙◌}
 use mathlib.Core.List.{List, ◌++◌}
 use Prim.Native.Nat.{ℕ, ◌+◌, ◌*◌, ◌-◌, ◌≤◌, ◌<◌}
@@ -9,12 +10,10 @@ use lib.Seq.{get_or-take}
 use borrow.Rule.Slice.PartMut.{same_len_mid}
 use Rattle.slices.specs.declared.Part.TheVariants.{First}
 use Rattle.slices.specs.declared.Refusal.{Refusal}
-use Rattle.slices.specs.Refusals.{Result, given, refused, mapped}
+use Rattle.slices.specs.Refusals.{mapped}
 use Rattle.slices.proofs.Refusals.{never-given, given-was}
 use Rattle.slices.specs.Filling.{written}
 use Rattle.slices.proofs.Filling.{Begun, begun_more, written-again, rest-lent}
-use Rattle.format.specs.declared.Step.{Step}
-use Rattle.format.specs.declared.Step.TheVariants.{Refused}
 use Rattle.format.specs.Format.{Found, reading, Fits, each}
 use Rattle.format.specs.Rows.{row}
 use Rattle.format.specs.Steps.{placed, Reads}
@@ -27,26 +26,26 @@ use Rattle.blocks.specs.Values.{ReadsBlocks}
 use Rattle.blocks.proofs.Shapes.{Counts, counts-was, fixed-head, leading-long}
 
 -- what follows
-module _ {A : Type 0} (go : List ℕ → ℕ → Result A) where
-  following-refused : {x : Result Found} {r : Refusal} → x ≡ refused r → following x go ≡ refused r
-  following-refused e = ap (λ (z : Result Found). following z go) e
+module _ {A : Type 0} (go : List ℕ → ℕ → Result A Refusal) where
+  following-refused : {x : Result Found Refusal} {r : Refusal} → x ≡ Err r → following x go ≡ Err r
+  following-refused e = ap (λ (z : Result Found Refusal). following z go) e
 
-  pub following-given : {x : Result Found} {f : Found} → x ≡ given f → following x go ≡ go f.values f.next
-  following-given e = ap (λ (z : Result Found). following z go) e
+  pub following-given : {x : Result Found Refusal} {f : Found} → x ≡ Ok f → following x go ≡ go f.values f.next
+  following-given e = ap (λ (z : Result Found Refusal). following z go) e
 
-  pub following-was : (x : Result Found) {a : A} → following x go ≡ given a → (f : Found) × (x ≡ given f) × (go f.values f.next ≡ given a)
-  following-was (given f) e = (f, refl, e)
-  following-was (refused r) e = absurd (never-given e)
+  pub following-was : (x : Result Found Refusal) {a : A} → following x go ≡ Ok a → (f : Found) × (x ≡ Ok f) × (go f.values f.next ≡ Ok a)
+  following-was (Ok f) e = (f, refl, e)
+  following-was (Err r) e = absurd (never-given e)
 
 -- What was read where blocks were: the seconds, then the leading automaton.
 pub record Were (t counts : List ℕ) (at : ℕ) (b : Blocks) : Type 0 where
   pub seconds : Found
   pub leading : Found
-  pub seconds_read : reading First t (seconds_format (get_or counts 0 0) (get_or counts 1 0)) at ≡ given seconds
-  pub leading_read : reading First t (leading_format (get_or counts 1 0) (get_or counts 2 0)) seconds.next ≡ given leading
+  pub seconds_read : reading First t (seconds_format (get_or counts 0 0) (get_or counts 1 0)) at ≡ Ok seconds
+  pub leading_read : reading First t (leading_format (get_or counts 1 0) (get_or counts 2 0)) seconds.next ≡ Ok leading
   pub said : record { front = counts ++ leading.values; timings = seconds.values; next = leading.next } ≡ b
 
-pub were : (t counts : List ℕ) (at : ℕ) {b : Blocks} → blocks_from t counts at ≡ given b → Were t counts at b
+pub were : (t counts : List ℕ) (at : ℕ) {b : Blocks} → blocks_from t counts at ≡ Ok b → Were t counts at b
 unfolding blocks_from
 were t counts at e =
     let x = following-was _ (reading First t (seconds_format (get_or counts 0 0) (get_or counts 1 0)) at) e in
@@ -70,17 +69,17 @@ module _ (t front seconds : List ℕ) (at : ℕ) {level s n : ℕ} (c : Counts (
   pub leading-room : n * (s + 2) ≤ length (take (length front - 3) (drop 3 front))
   leading-room = omega (arith, leading-few, room, ap length (rest-lent front 3), length-drop 3 front)
 
-  abbrev finish : List ℕ → List ℕ → ℕ → Result Blocks
-  finish times leading e = given (record { front = counts ++ leading; timings = times; next = e })
+  abbrev finish : List ℕ → List ℕ → ℕ → Result Blocks Refusal
+  finish times leading e = Ok (record { front = counts ++ leading; timings = times; next = e })
 
-  abbrev go : List ℕ → ℕ → Result Blocks
+  abbrev go : List ℕ → ℕ → Result Blocks Refusal
   go times e = following (reading First t (leading_format (get_or counts 1 0) (get_or counts 2 0)) e) (finish times)
 
-  seconds-as : {x : Result Found} → reading First t (seconds_format level s) at ≡ x → reading First t (seconds_format (get_or counts 0 0) (get_or counts 1 0)) at ≡ x
+  seconds-as : {x : Result Found Refusal} → reading First t (seconds_format level s) at ≡ x → reading First t (seconds_format (get_or counts 0 0) (get_or counts 1 0)) at ≡ x
   seconds-as e = (λ i. reading First t (seconds_format (sym el i) (sym es i)) at) ∙ e
 
   -- no seconds
-  pub without-seconds : {times : List ℕ} {x : Refusal} {r : Step} → Reads (reading First t (seconds_format level s) at) seconds times r → r ≡ Refused x → ReadsBlocks (blocks_from t counts at) front front seconds times (Refused x)
+  pub without-seconds : {times : List ℕ} {x : Refusal} {r : Result ℕ Refusal} → Reads (reading First t (seconds_format level s) at) seconds times r → r ≡ Err x → ReadsBlocks (blocks_from t counts at) front front seconds times (Err x)
   unfolding blocks_from
   without-seconds d e =
       let z = following-refused go (seconds-as (lost First t (seconds_format level s) at d e)) in
@@ -93,7 +92,7 @@ module _ (t front seconds : List ℕ) (at : ℕ) {level s n : ℕ} (c : Counts (
 
   -- the leading automaton follows the seconds
   module _ {times : List ℕ} {e : ℕ} (g : Got First t (seconds_format level s) at seconds times e) where
-    abbrev leads : Result Found
+    abbrev leads : Result Found Refusal
     leads = reading First t (leading_format s n) e
 
     from : blocks_from t counts at ≡ following leads (finish g.found.values)
@@ -102,9 +101,9 @@ module _ (t front seconds : List ℕ) (at : ℕ) {level s n : ℕ} (c : Counts (
         following-given go (seconds-as g.says)
         ∙ (λ i. following (reading First t (leading_format (sym es i) (sym en i)) (g.next i)) (finish g.found.values))
 
-    next_of : (x : Result Found) → mapped (λ (b : Blocks). b.next) (following x (finish g.found.values)) ≡ placed x
-    next_of (given f) = refl
-    next_of (refused r) = refl
+    next_of : (x : Result Found Refusal) → mapped (λ (b : Blocks). b.next) (following x (finish g.found.values)) ≡ placed x
+    next_of (Ok f) = refl
+    next_of (Err r) = refl
 
     kept : Begun counts front front
     unfolding written
@@ -113,7 +112,7 @@ module _ (t front seconds : List ℕ) (at : ℕ) {level s n : ℕ} (c : Counts (
         cut : front ≡ counts ++ drop (length counts) front
         cut = sym (take-append-drop 3 front) ∙ ap (λ (k : ℕ). counts ++ drop k front) (sym c.three)
 
-    pub with-leading : {last : List ℕ} {r : Step} → Reads leads (take (length front - 3) (drop 3 front)) last r
+    pub with-leading : {last : List ℕ} {r : Result ℕ Refusal} → Reads leads (take (length front - 3) (drop 3 front)) last r
         → ReadsBlocks (blocks_from t counts at) front (take 3 front ++ (last ++ drop (length front - 3) (drop 3 front))) seconds times r
     with-leading {last} d = record {
       says = d.says ∙ (sym (next_of leads) ∙ ap (mapped (λ (b : Blocks). b.next)) (sym from));
@@ -144,7 +143,7 @@ module _ {t old front : List ℕ} {e : ℕ} (g : Got First t counts_format 0 old
   unfolding blocks_of
   whole = following-given (blocks_from t) g.says ∙ (λ i. blocks_from t (sym counts-here i) (g.next i))
 
-  pub blocks-read : {last seconds times : List ℕ} {r : Step} → ReadsBlocks (blocks_from t (take 3 front) e) front last seconds times r → ReadsBlocks (blocks_of t) old last seconds times r
+  pub blocks-read : {last seconds times : List ℕ} {r : Result ℕ Refusal} → ReadsBlocks (blocks_from t (take 3 front) e) front last seconds times r → ReadsBlocks (blocks_of t) old last seconds times r
   blocks-read {last} d = record {
     says = d.says ∙ ap (mapped (λ (b : Blocks). b.next)) (sym whole);
     front_same = d.front_same ∙ g.begun.same;
@@ -157,7 +156,7 @@ module _ {t old front : List ℕ} {e : ℕ} (g : Got First t counts_format 0 old
         (c.0 ∙ (ap (written b.front) g.begun.cells ∙ again), c.1);
   }
 
-pub counts-lost : (t seconds : List ℕ) {old front : List ℕ} {r : Step} {x : Refusal} → Reads (reading First t counts_format 0) old front r → r ≡ Refused x → ReadsBlocks (blocks_of t) old front seconds seconds (Refused x)
+pub counts-lost : (t seconds : List ℕ) {old front : List ℕ} {r : Result ℕ Refusal} {x : Refusal} → Reads (reading First t counts_format 0) old front r → r ≡ Err x → ReadsBlocks (blocks_of t) old front seconds seconds (Err x)
 unfolding blocks_of
 counts-lost t seconds d e =
     let z = following-refused (blocks_from t) (lost First t counts_format 0 d e) in

@@ -1,4 +1,5 @@
 -- The text of the blocks before the last: what was read is their text, and their text is read. Assumes nothing.
+use Rattle.std.specs.Prelude.{Ok}
 use mathlib.Core.Path.{◌≡◌, ap, sym, subst, ◌∙◌}
 use mathlib.Core.List.{List, ◌++◌}
 use Prim.Native.Nat.{ℕ, ◌+◌, ◌<◌}
@@ -6,7 +7,6 @@ use native.Mathlib.Omega.{arith}
 use lib.ListN.{length, get_or, take, drop, length-append}
 use lib.Seq.{take-append_seam, drop-append_seam}
 use Rattle.slices.specs.declared.Part.TheVariants.{First}
-use Rattle.slices.specs.Refusals.{given}
 use Rattle.slices.proofs.Tables.{get_or-first}
 use Rattle.numbers.proofs.Standing.{At, at-append}
 use Rattle.format.specs.Format.{Found, reading, printed, Fits}
@@ -54,8 +54,8 @@ module _ (counts leading : List ℕ) (c : Counts counts) where
   states = entry 2 (omega arith)
 
 -- what was read
-module _ (t : List ℕ) {b : Blocks} (e : blocks_of t ≡ given b) where
-  first : (f : Found) × (reading First t counts_format 0 ≡ given f) × (blocks_from t f.values f.next ≡ given b)
+module _ (t : List ℕ) {b : Blocks} (e : blocks_of t ≡ Ok b) where
+  first : (f : Found) × (reading First t counts_format 0 ≡ Ok f) × (blocks_from t f.values f.next ≡ Ok b)
   unfolding blocks_of
   first = following-was (blocks_from t) (reading First t counts_format 0) e
 
@@ -129,7 +129,7 @@ module _ (t counts seconds leading : List ℕ) where
 
   pub blocks-are : Fits counts_format counts → Fits (seconds_format (get_or counts 0 0) (get_or counts 1 0)) seconds → Fits (leading_format (get_or counts 1 0) (get_or counts 2 0)) leading
       → At t 0 first-text → At t (0 + length first-text) second-text → At t (0 + length first-text + length second-text) third-text
-      → blocks_of t ≡ given (record { front = counts ++ leading; timings = seconds; next = 0 + length first-text + length second-text + length third-text })
+      → blocks_of t ≡ Ok (record { front = counts ++ leading; timings = seconds; next = 0 + length first-text + length second-text + length third-text })
   unfolding blocks_of blocks_from
   blocks-are fc fs fl ax ay az =
       following-given (blocks_from t) (reading-is First t counts_format 0 counts fc ax)

@@ -29,12 +29,12 @@ timed-few level s = by (eqb level 4)
     by true = omega arith
     by false = omega arith
 
--- a level's title are the first bytes of one
-pub title-of : (level : ℕ) → take (length (seconds_title level)) times_title ≡ seconds_title level
-unfolding seconds_title
-title-of level = by (eqb level 4)
+-- of the title's 14 bytes a level has as many as of other things that only level four has
+pub title-taken : (level : ℕ) {n : ℕ} → n ≡ timed level 14 → take n times_title ≡ seconds_title level
+unfolding timed seconds_title
+title-taken level e = ap (λ (k : ℕ). take k times_title) e ∙ by (eqb level 4)
   where
-    by : (t : Bool) → take (length (cond t times_title [])) times_title ≡ cond t times_title []
+    by : (t : Bool) → take (cond t 14 0) times_title ≡ cond t times_title []
     by true = refl
     by false = refl
 

@@ -1,3 +1,4 @@
+pub mod Lent
 pub mod Measures
 pub mod Gathered
 pub mod LetterNames

@@ -1,4 +1,6 @@
 -- The third block: its rows, as a loop reads them part by part, and the whole. Assumes nothing.
+use Rattle.std.specs.Prelude.{Result, Ok}
+use Rattle.slices.specs.declared.Refusal.{Refusal}
 use mathlib.Core.Path.{◌≡◌, ap, sym, ◌∙◌}
 use mathlib.Core.List.{List, ◌++◌}
 use Prim.Native.Nat.{ℕ, ◌+◌, ◌*◌, ◌≤◌}
@@ -6,11 +8,8 @@ use native.Mathlib.Omega.{arith}
 use native.Mathlib.Nat.{add-mul}
 use lib.ListN.{length, take, length-append}
 use Rattle.slices.specs.declared.Part.TheVariants.{First}
-use Rattle.slices.specs.Refusals.{given}
 use Rattle.slices.specs.Tables.{sum}
 use Rattle.format.specs.declared.Row.{Row}
-use Rattle.format.specs.declared.Step.{Step}
-use Rattle.format.specs.declared.Step.TheVariants.{Next}
 use Rattle.format.specs.Format.{Format, Found, reading, Fits, each}
 use Rattle.format.specs.Rows.{row, numbered}
 use Rattle.format.specs.Steps.{Reads}
@@ -39,7 +38,7 @@ module _ (s : ℕ) (size : ℕ → ℕ) where
     part-ends = omega (arith, part-begins, ap (λ (m : ℕ). m * (s + 3)) (sum-next size q), add-mul (sum q size) (size q) (s + 3))
 
     -- what was read of it is as long
-    pub part-long : {g : Found} → reading First t (parted q) p ≡ given g → size q * (s + 3) ≡ length g.values
+    pub part-long : {g : Found} → reading First t (parted q) p ≡ Ok g → size q * (s + 3) ≡ length g.values
     part-long {g} e =
         let all = parts-long s (q + 1) size (x.values ++ g.values) (reading-was First t (each (q + 1) parted) at _ h (each_next First t parted at q x.says e)).fits in
         omega (arith, all, part-ends, x.long, length-append x.values g.values)
@@ -47,17 +46,17 @@ module _ (s : ℕ) (size : ℕ → ℕ) where
 -- The third block, at the start of a slice; it ends at e.
 pub record Closed (t front new : List ℕ) (at e : ℕ) : Type 0 where
   pub parts : List ℕ
-  pub says : reading First t (parts_format front) at ≡ given (record { values = parts; next = e })
+  pub says : reading First t (parts_format front) at ≡ Ok (record { values = parts; next = e })
   pub whole : Whole front parts
   pub here : {m : ℕ} → m ≡ sum (states_in front) (size_in front) * (letters_in front + 3) → take m new ≡ parts
 
-pub closed : {t front old new : List ℕ} {r : Step} {at e : ℕ} → at ≤ length t → Fits front_format front → Reads (reading First t (parts_format front) at) old new r → r ≡ Next e → Closed t front new at e
+pub closed : {t front old new : List ℕ} {r : Result ℕ Refusal} {at e : ℕ} → at ≤ length t → Fits front_format front → Reads (reading First t (parts_format front) at) old new r → r ≡ Ok e → Closed t front new at e
 closed {t} {front} {at = at} h f d n =
     let g = got First t (parts_format front) at d h n in
     let w : Whole front g.found.values = record { first = f; second = g.fits } in
     record {
       parts = g.found.values;
-      says = g.says ∙ ap (λ (m : ℕ). given (record { values = g.found.values; next = m })) g.next;
+      says = g.says ∙ ap (λ (m : ℕ). Ok (record { values = g.found.values; next = m })) g.next;
       whole = w;
       here = λ k. got-all g (k ∙ sym (whole-readable front g.found.values w).parts_length);
     }

@@ -1,4 +1,5 @@
 -- What numbers that fit the format of a sheet's text are: a sheet's. Assumes nothing.
+use Rattle.slices.specs.declared.Reason.TheVariants.{NextState}
 use mathlib.Core.Path.{◌≡◌, refl, ap, ap₂, sym, subst, ◌∙◌}
 use mathlib.Core.Bool.{Bool, true, false, cond}
 use mathlib.Core.List.{List, [], ◌∷◌, ◌++◌}
@@ -26,17 +27,17 @@ pub fixed-head : (title : List ℕ) (s : ℕ) → Fixed (head title s) ((title +
 fixed-head title s = fixed-seq (fixed-seq (fixed-literal title) (fixed-literal (names s))) (fixed-literal (10 ∷ []))
 
 -- the columns of the next states
-pub leading-column : (s n q i : ℕ) → 2 ≤ i → column_of (leading_row_of s n q) i ≡ below n 5
+pub leading-column : (s n q i : ℕ) → 2 ≤ i → column_of (leading_row_of s n q) i ≡ below n NextState
 leading-column s n q i h =
     let a : i ≡ 0 → ⊥ = λ e. omega arith in
     let b : i ≡ 1 → ⊥ = λ e. omega arith in
     rw (ne_eqb i 0 a, ne_eqb i 1 b) (by (eqb i 2))
   where
-    by : (t : Bool) → cond t (below n 5) (below n 5) ≡ below n 5
+    by : (t : Bool) → cond t (below n NextState) (below n NextState) ≡ below n NextState
     by true = refl
     by false = refl
 
-pub progress-column : (s q k p i : ℕ) → 3 ≤ i → column_of (progress_row_of s q k p) i ≡ below k 5
+pub progress-column : (s q k p i : ℕ) → 3 ≤ i → column_of (progress_row_of s q k p) i ≡ below k NextState
 progress-column s q k p i h =
     let a : i ≡ 0 → ⊥ = λ e. omega arith in
     let b : i ≡ 1 → ⊥ = λ e. omega arith in

@@ -1,8 +1,8 @@
 -- The numbers of a text: the blocks before the last, read from left to right, and what the numbers say. Assumes
 -- nothing.
-use Rattle.std.specs.Prelude.{List, ◌++◌, ℕ, ◌+◌, ◌*◌, eqb, get_or}
+use Rattle.slices.specs.declared.Refusal.{Refusal}
+use Rattle.std.specs.Prelude.{List, ◌++◌, ℕ, ◌+◌, ◌*◌, eqb, get_or, Result, Ok, Err}
 use Rattle.slices.specs.declared.Part.TheVariants.{First}
-use Rattle.slices.specs.Refusals.{Result, given, refused}
 use Rattle.slices.specs.Tables.{tab, sum}
 use Rattle.fdfa.specs.Family.{Fdfa}
 use Rattle.format.specs.Format.{Found, reading}
@@ -10,9 +10,9 @@ use Rattle.blocks.specs.Text.{timed, counts_format, seconds_format, leading_form
 use Rattle.blocks.specs.Text.{leading_in, size_in}
 
 -- What follows what was read: of its numbers and the place after it.
-abbrev pub following : {A : Type 0} → Result Found → (List ℕ → ℕ → Result A) → Result A
-following (given f) go = go f.values f.next
-following (refused r) go = refused r
+abbrev pub following : {A : Type 0} → Result Found Refusal → (List ℕ → ℕ → Result A Refusal) → Result A Refusal
+following (Ok f) go = go f.values f.next
+following (Err r) go = Err r
 
 -- The numbers before the last block: the front, and the timings, those of the rows of seconds, scene and seconds in
 -- turn, of which level three has none; and the place after them.
@@ -22,13 +22,13 @@ pub record Blocks : Type 0 where
   pub next : ℕ
 
 -- After the counts come the seconds, then the leading automaton.
-unfoldable pub blocks_from : List ℕ → List ℕ → ℕ → Result Blocks
+unfoldable pub blocks_from : List ℕ → List ℕ → ℕ → Result Blocks Refusal
 blocks_from t counts at =
     following (reading First t (seconds_format (level_in counts) (letters_in counts)) at)
     (λ timings at. following (reading First t (leading_format (letters_in counts) (states_in counts)) at)
-    (λ leading at. given (record { front = counts ++ leading; timings = timings; next = at })))
+    (λ leading at. Ok (record { front = counts ++ leading; timings = timings; next = at })))
 
-unfoldable pub blocks_of : List ℕ → Result Blocks
+unfoldable pub blocks_of : List ℕ → Result Blocks Refusal
 blocks_of t = following (reading First t counts_format 0) (blocks_from t)
 
 -- The numbers of row p of the progress automaton of q come after those of all rows before it.

@@ -1,5 +1,8 @@
 -- The sheet as text (01, and level four of F-5): blocks, each a line of names and then rows of numbers in that order.
 -- One description of each block serves reading and writing, with the level as a parameter. Assumes nothing.
+use Rattle.slices.specs.declared.Reason.{Reason}
+use Rattle.slices.specs.declared.Reason.TheVariants.{LetterCount, StateCount, ProgressSize, NextState, MarkByte}
+use Rattle.slices.specs.declared.Reason.TheVariants.{UnknownLevel, SecondsRange}
 use Rattle.std.specs.Prelude.{cond, List, [], ◌∷◌, ◌++◌, ℕ, ◌+◌, ◌*◌, eqb, get_or}
 use Rattle.fdfa.specs.Family.{Fdfa}
 use Rattle.slices.specs.Tables.{tab, rows}
@@ -33,8 +36,8 @@ abbrev pub head : List ℕ → ℕ → Format
 head title s = seq (seq (literal title) (λ vs. literal (names s))) (λ vs. literal (bytes "\n"))
 
 -- A count from 1 to 32.
-abbrev pub counted : ℕ → Column
-counted refusal = record { low = 1; limit = 33; number = refusal }
+abbrev pub counted : Reason → Column
+counted reason = record { low = 1; limit = 33; reason = reason }
 
 -- What level four has and level three has not: the title of the seconds, and how many letters have some, all of them or
 -- none.
@@ -46,15 +49,15 @@ timed level s = cond (eqb level 4) s 0
 
 -- Seconds from 1 to 999.
 abbrev pub duration : Column
-duration = record { low = 1; limit = 1000; number = 14 }
+duration = record { low = 1; limit = 1000; reason = SecondsRange }
 
 -- The rows of the blocks. The level is 3 or 4; `loops` is k(q).
 abbrev pub counts_row_of : Row
 counts_row_of = record {
-  first = record { low = 3; limit = 5; number = 10 };
-  second = counted 2;
-  third = counted 3;
-  rest = counted 3;
+  first = record { low = 3; limit = 5; reason = UnknownLevel };
+  second = counted LetterCount;
+  third = counted StateCount;
+  rest = counted StateCount;
   count = 3;
 }
 
@@ -62,10 +65,22 @@ abbrev pub seconds_row_of : ℕ → Row
 seconds_row_of a = record { first = due a; second = duration; third = duration; rest = duration; count = 2 }
 
 abbrev pub leading_row_of : ℕ → ℕ → ℕ → Row
-leading_row_of s n q = record { first = due q; second = counted 4; third = below n 5; rest = below n 5; count = s + 2 }
+leading_row_of s n q = record {
+  first = due q;
+  second = counted ProgressSize;
+  third = below n NextState;
+  rest = below n NextState;
+  count = s + 2;
+}
 
 abbrev pub progress_row_of : ℕ → ℕ → ℕ → ℕ → Row
-progress_row_of s q k p = record { first = due q; second = due p; third = below 2 6; rest = below k 5; count = s + 3 }
+progress_row_of s q k p = record {
+  first = due q;
+  second = due p;
+  third = below 2 MarkByte;
+  rest = below k NextState;
+  count = s + 3;
+}
 
 -- The block of the counts; that of the seconds, of which level three has nothing; that of the leading automaton; the
 -- rows and the block of the progress automata.

@@ -1,12 +1,11 @@
 -- What inner functions need and do of the numbers of a text before they are packed. Assumes nothing.
-use Rattle.std.specs.Prelude.{◌≡◌, List, ℕ, ◌+◌, ◌*◌, ◌<◌, length}
-use Rattle.slices.specs.Refusals.{Result, given, mapped}
+use Rattle.slices.specs.declared.Refusal.{Refusal}
+use Rattle.std.specs.Prelude.{◌≡◌, List, ℕ, ◌+◌, ◌*◌, ◌<◌, length, Result, Ok}
+use Rattle.slices.specs.Refusals.{mapped}
 use Rattle.slices.specs.Filling.{written}
 use Rattle.slices.specs.Tables.{sum}
 use Rattle.packed.specs.Layout.{Packable}
-use Rattle.format.specs.declared.Step.{Step}
 use Rattle.format.specs.Format.{Format, Fits, seq}
-use Rattle.format.specs.Steps.{step_says}
 use Rattle.blocks.specs.Text.{counts_format, leading_format, letters_in, states_in, size_in, parts_format}
 use Rattle.blocks.specs.Numbers.{Blocks, progress_in, family_of}
 
@@ -27,8 +26,9 @@ pub record Whole (front parts : List ℕ) : Type 0 where
   pub second : Fits (parts_format front) parts
 
 -- The blocks before the last were read to the starts of two lent slices; a refusal leaves their cells open.
-pub record ReadsBlocks (x : Result Blocks) (front front' seconds seconds' : List ℕ) (r : Step) : Type 0 where
-  pub says : step_says r ≡ mapped (λ (b : Blocks). b.next) x
+pub record ReadsBlocks (x : Result Blocks Refusal) (front front' seconds seconds' : List ℕ) (r : Result ℕ Refusal)
+    : Type 0 where
+  pub says : r ≡ mapped (λ (b : Blocks). b.next) x
   pub front_same : length front' ≡ length front
   pub seconds_same : length seconds' ≡ length seconds
-  pub cells : (b : Blocks) → x ≡ given b → (front' ≡ written b.front front) × (seconds' ≡ written b.timings seconds)
+  pub cells : (b : Blocks) → x ≡ Ok b → (front' ≡ written b.front front) × (seconds' ≡ written b.timings seconds)

@@ -7,8 +7,6 @@ ghost use Rattle.blocks.specs.Text.{letters_in, states_in, size_in};
 ghost use Rattle.blocks.specs.Numbers.{family_of};
 ghost use Rattle.blocks.specs.Values.{Readable};
 
-use slices::{narrow, wide16};
-
 // Numbers `stride` apart.
 fn gather(
     values: &[u16],
@@ -23,16 +21,10 @@ fn gather(
         (get_or values.now (at + i * stride) 0 < 256) }
     ensures { Stored out.old to (tab count (λ i. get_or values.now (at + i * stride) 0)) out.new result }
 {
-    let mut w = to;
-    let mut p = at;
-    let mut i = 0;
-    while i < count {
-        out[w] = narrow(wide16(values[p]));
-        w += 1;
-        p += stride;
-        i += 1;
+    for (i, cell) in out[to..to + count].iter_mut().enumerate() {
+        *cell = values[at + i * stride] as u8;
     }
-    w
+    to + count
 }
 
 // A table of k rows of s next states, each after `head` numbers.
@@ -53,11 +45,9 @@ fn fill_table(
 {
     let mut w = to;
     let mut p = at + head;
-    let mut q = 0;
-    while q < k {
+    for q in 0..k {
         w = gather(values, p, 1, s, out, w);
         p += s + head;
-        q += 1;
     }
     w
 }
@@ -85,12 +75,10 @@ fn fill_parts(front: &[u16], parts: &[u16], s: usize, n: usize, out: &mut [u8], 
 {
     let mut p = 0;
     let mut w = to;
-    let mut q = 0;
-    while q < n {
-        let k = wide16(front[3 + q * (s + 2) + 1]);
+    for q in 0..n {
+        let k = usize::from(front[3 + q * (s + 2) + 1]);
         w = fill_part(parts, s, k, p, out, w);
         p += k * (s + 3);
-        q += 1;
     }
     w
 }
@@ -101,8 +89,8 @@ fn fill_front(front: &[u16], parts: &[u16], s: usize, n: usize, out: &mut [u8]) 
     requires parts_in_bounds { length (front_bytes (family_of front.now parts.now)) ≤ length out.old }
     ensures { Stored out.old 0 (front_bytes (family_of front.now parts.now)) out.new result }
 {
-    out[0] = narrow(s);
-    out[1] = narrow(n);
+    out[0] = s as u8;
+    out[1] = n as u8;
     let w = gather(front, 4, s + 2, n, out, 2);
     fill_table(front, 3, 2, s, n, out, w)
 }
@@ -125,10 +113,8 @@ pub fn row_count(front: &[u16], s: usize, n: usize) -> usize
     ensures { (result ≡ sum (states_in front.now) (size_in front.now)) × (result ≤ 1024) }
 {
     let mut count = 0;
-    let mut q = 0;
-    while q < n {
-        count += wide16(front[3 + q * (s + 2) + 1]);
-        q += 1;
+    for q in 0..n {
+        count += usize::from(front[3 + q * (s + 2) + 1]);
     }
     count
 }

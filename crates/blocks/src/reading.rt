@@ -3,7 +3,7 @@
 ghost use Rattle.std.specs.Prelude.{◌≡◌, ◌∷◌, [], ◌+◌, ◌*◌, ◌≤◌, ◌<◌, length, take};
 ghost use Rattle.slices.specs.declared.Part.TheVariants.{First};
 ghost use Rattle.format.specs.Format.{reading, Fits, seq, each, literal};
-ghost use Rattle.format.specs.Steps.{placed, step_says, Reads};
+ghost use Rattle.format.specs.Steps.{placed, Reads};
 ghost use Rattle.blocks.specs.Text.{names, head, counts_row_of, leading_row_of, progress_row_of, counts_format};
 ghost use Rattle.blocks.specs.Text.{leading_format, part_format, letters_in, states_in, size_in, parts_format};
 ghost use Rattle.blocks.specs.Numbers.{blocks_from, blocks_of};
@@ -11,8 +11,8 @@ ghost use Rattle.blocks.specs.Values.{front_format, ReadsBlocks};
 
 use crate::names::{NAMES, names_len};
 use crate::seconds::read_seconds;
-use format::{Column, Row, Step, read_literal, read_row, read_rows};
-use slices::{Part, wide16};
+use format::{Column, Row, read_literal, read_row, read_rows};
+use slices::{Part, Reason, Refusal};
 
 // The row of the counts.
 fn counts_row() -> Row
@@ -21,17 +21,17 @@ fn counts_row() -> Row
     let first = Column {
         low: 3,
         limit: 5,
-        number: 10,
+        reason: Reason::UnknownLevel,
     };
     let second = Column {
         low: 1,
         limit: 33,
-        number: 2,
+        reason: Reason::LetterCount,
     };
     let third = Column {
         low: 1,
         limit: 33,
-        number: 3,
+        reason: Reason::StateCount,
     };
     Row {
         first,
@@ -50,17 +50,17 @@ fn leading_row(s: usize, n: usize) -> Row
     let first = Column {
         low: 0,
         limit: 1,
-        number: 12,
+        reason: Reason::OutOfTurn,
     };
     let second = Column {
         low: 1,
         limit: 33,
-        number: 4,
+        reason: Reason::ProgressSize,
     };
     let rest = Column {
         low: 0,
         limit: n,
-        number: 5,
+        reason: Reason::NextState,
     };
     Row {
         first,
@@ -79,22 +79,22 @@ fn progress_row(s: usize, q: usize, k: usize) -> Row
     let first = Column {
         low: q,
         limit: q + 1,
-        number: 12,
+        reason: Reason::OutOfTurn,
     };
     let second = Column {
         low: 0,
         limit: 1,
-        number: 12,
+        reason: Reason::OutOfTurn,
     };
     let third = Column {
         low: 0,
         limit: 2,
-        number: 6,
+        reason: Reason::MarkByte,
     };
     let rest = Column {
         low: 0,
         limit: k,
-        number: 5,
+        reason: Reason::NextState,
     };
     Row {
         first,
@@ -106,85 +106,85 @@ fn progress_row(s: usize, q: usize, k: usize) -> Row
 }
 
 // The names of the letters and a line feed.
-fn read_names(text: &[u8], at: usize, s: usize) -> Step
+fn read_names(text: &[u8], at: usize, s: usize) -> Result<usize, Refusal>
     requires { (at ≤ length text.now) × (s ≤ 32) }
-    ensures { step_says result ≡ placed (reading First text.now
+    ensures { result ≡ placed (reading First text.now
         (seq (literal (names s)) (λ vs. literal (10 ∷ []))) at) }
 {
-    let step = read_literal(text, at, &NAMES[..names_len(s)], Part::First);
-    match step {
-        Step::Refused(x) => Step::Refused(x),
-        Step::Next(e) => read_literal(text, e, b"\n", Part::First),
-    }
+    let e = read_literal(text, at, &NAMES[..names_len(s)], Part::First)?;
+    read_literal(text, e, b"\n", Part::First)
 }
 
 // A line of names: a title, then the names of the letters.
-fn read_head(text: &[u8], at: usize, title: &[u8], s: usize) -> Step
+fn read_head(text: &[u8], at: usize, title: &[u8], s: usize) -> Result<usize, Refusal>
     requires { (at ≤ length text.now) × (s ≤ 32) }
-    ensures { step_says result ≡ placed (reading First text.now (head title.now s) at) }
+    ensures { result ≡ placed (reading First text.now (head title.now s) at) }
 {
-    let step = read_literal(text, at, title, Part::First);
-    match step {
-        Step::Refused(x) => Step::Refused(x),
-        Step::Next(e) => read_names(text, e, s),
-    }
+    let e = read_literal(text, at, title, Part::First)?;
+    read_names(text, e, s)
 }
 
 // The block of the counts.
-fn read_counts(text: &[u8], front: &mut [u16]) -> Step
+fn read_counts(text: &[u8], front: &mut [u16]) -> Result<usize, Refusal>
     requires { 3 ≤ length front.old }
     ensures { Reads (reading First text.now counts_format 0) front.old front.new result }
 {
-    let step = read_literal(text, 0, b"level scenes places\n", Part::First);
-    match step {
-        Step::Refused(x) => Step::Refused(x),
-        Step::Next(e) => read_row(text, e, counts_row(), front, Part::First),
-    }
+    let e = read_literal(text, 0, b"level scenes places\n", Part::First)?;
+    read_row(text, e, counts_row(), front, Part::First)
 }
 
 // The block of the leading automaton.
-fn read_leading(text: &[u8], at: usize, s: usize, n: usize, rows: &mut [u16]) -> Step
+fn read_leading(
+    text: &[u8],
+    at: usize,
+    s: usize,
+    n: usize,
+    rows: &mut [u16],
+) -> Result<usize, Refusal>
     requires { (at ≤ length text.now) × (s ≤ 32) × (n ≤ 32) × (n * (s + 2) ≤ length rows.old) }
     ensures { Reads (reading First text.now (leading_format s n) at) rows.old rows.new result }
 {
-    let step = read_head(text, at, b"place loops", s);
-    match step {
-        Step::Refused(x) => Step::Refused(x),
-        Step::Next(e) => read_rows(text, e, leading_row(s, n), 0, n, rows, Part::First),
-    }
+    let e = read_head(text, at, b"place loops", s)?;
+    read_rows(text, e, leading_row(s, n), 0, n, rows, Part::First)
 }
 
 // The blocks between the counts, which lie at the start of `front`, and the last.
-fn read_middle(text: &[u8], at: usize, front: &mut [u16], seconds: &mut [u16]) -> Step
+fn read_middle(
+    text: &[u8],
+    at: usize,
+    front: &mut [u16],
+    seconds: &mut [u16],
+) -> Result<usize, Refusal>
     requires { (at ≤ length text.now) × Fits counts_format (take 3 front.old) × (1091 ≤ length front.old) ×
         (64 ≤ length seconds.old) }
     ensures { ReadsBlocks
         (blocks_from text.now (take 3 front.old) at) front.old front.new seconds.old seconds.new result }
 {
-    let level = wide16(front[0]);
-    let s = wide16(front[1]);
-    let n = wide16(front[2]);
-    let step = read_seconds(text, at, level, s, seconds);
-    match step {
-        Step::Refused(x) => Step::Refused(x),
-        Step::Next(e) => read_leading(text, e, s, n, &mut front[3..]),
-    }
+    let level = usize::from(front[0]);
+    let s = usize::from(front[1]);
+    let n = usize::from(front[2]);
+    let e = read_seconds(text, at, level, s, seconds)?;
+    read_leading(text, e, s, n, &mut front[3..])
 }
 
 // The blocks before the last: their numbers in `front`, those of the seconds in `seconds`.
-pub fn read_blocks(text: &[u8], front: &mut [u16], seconds: &mut [u16]) -> Step
+pub fn read_blocks(text: &[u8], front: &mut [u16], seconds: &mut [u16]) -> Result<usize, Refusal>
     requires { (1091 ≤ length front.old) × (64 ≤ length seconds.old) }
     ensures { ReadsBlocks (blocks_of text.now) front.old front.new seconds.old seconds.new result }
 {
-    let step = read_counts(text, front);
-    match step {
-        Step::Refused(x) => Step::Refused(x),
-        Step::Next(e) => read_middle(text, e, front, seconds),
-    }
+    let e = read_counts(text, front)?;
+    read_middle(text, e, front, seconds)
 }
 
 // The rows of the progress automata. Their sizes are in the front.
-fn read_parts(text: &[u8], at: usize, front: &[u16], s: usize, n: usize, parts: &mut [u16]) -> Step
+fn read_parts(
+    text: &[u8],
+    at: usize,
+    front: &[u16],
+    s: usize,
+    n: usize,
+    parts: &mut [u16],
+) -> Result<usize, Refusal>
     requires { (at ≤ length text.now) × Fits front_format front.now × (s ≡ letters_in front.now) ×
         (n ≡ states_in front.now) × (35840 ≤ length parts.old) }
     ensures { Reads (reading First text.now (each n (λ q. part_format s
@@ -192,10 +192,9 @@ fn read_parts(text: &[u8], at: usize, front: &[u16], s: usize, n: usize, parts: 
 {
     let mut p = at;
     let mut w = 0;
-    let mut q = 0;
-    while q < n {
-        let k = wide16(front[3 + q * (s + 2) + 1]);
-        let step = read_rows(
+    for q in 0..n {
+        let k = usize::from(front[3 + q * (s + 2) + 1]);
+        p = read_rows(
             text,
             p,
             progress_row(s, q, k),
@@ -203,19 +202,10 @@ fn read_parts(text: &[u8], at: usize, front: &[u16], s: usize, n: usize, parts: 
             k,
             &mut parts[w..],
             Part::First,
-        );
-        match step {
-            Step::Refused(x) => {
-                return Step::Refused(x);
-            }
-            Step::Next(e) => {
-                p = e;
-            }
-        }
+        )?;
         w += k * (s + 3);
-        q += 1;
     }
-    Step::Next(p)
+    Ok(p)
 }
 
 // The block of the progress automata.
@@ -226,14 +216,11 @@ pub fn read_progress(
     s: usize,
     n: usize,
     parts: &mut [u16],
-) -> Step
+) -> Result<usize, Refusal>
     requires { (at ≤ length text.now) × Fits front_format front.now × (s ≡ letters_in front.now) ×
         (n ≡ states_in front.now) × (35840 ≤ length parts.old) }
     ensures { Reads (reading First text.now (parts_format front.now) at) parts.old parts.new result }
 {
-    let step = read_head(text, at, b"place loop mark", s);
-    match step {
-        Step::Refused(x) => Step::Refused(x),
-        Step::Next(e) => read_parts(text, e, front, s, n, parts),
-    }
+    let e = read_head(text, at, b"place loop mark", s)?;
+    read_parts(text, e, front, s, n, parts)
 }

@@ -14,24 +14,14 @@ ghost use Rattle.slices.specs.Seconds.{TimesFit};
 use crate::names::{NAMES, names_len};
 use crate::seconds::put_seconds;
 use format::{put_literal, put_row};
-use slices::narrow16;
-
-// A byte as a number of a row.
-fn number(x: u8) -> u16
-    ensures { result ≡ x }
-{
-    x as u16
-}
 
 // Next states of a row, as numbers, from cell `head` of the row on.
 fn put_nexts(sheet: &[u8], from: usize, s: usize, head: usize, row: &mut [u16])
     requires { (from + s ≤ length sheet.now) × (head ≤ 3) × (s ≤ 32) × (head + s ≤ length row.old) }
     ensures { row.new ≡ sets row.old head (tab s (λ a. get_or sheet.now (from + a) 0)) }
 {
-    let mut a = 0;
-    while a < s {
-        row[head + a] = number(sheet[from + a]);
-        a += 1;
+    for (a, cell) in row[head..head + s].iter_mut().enumerate() {
+        *cell = u16::from(sheet[from + a]);
     }
 }
 
@@ -41,8 +31,8 @@ fn leading_values(sheet: &[u8], s: usize, n: usize, q: usize, row: &mut [u16])
         (s + 2 ≤ length row.old) }
     ensures { row.new ≡ written (leading_values_of (decode sheet.now) q) row.old }
 {
-    row[0] = narrow16(q);
-    row[1] = number(sheet[2 + q]);
+    row[0] = q as u16;
+    row[1] = u16::from(sheet[2 + q]);
     put_nexts(sheet, 2 + n + q * s, s, 2, row);
 }
 
@@ -60,9 +50,9 @@ fn progress_values(
         (k ≡ size_of sheet.now q) × (from ≡ progress_at_value sheet.now q) × (p < k) × (s + 3 ≤ length row.old) }
     ensures { row.new ≡ written (progress_values_of (decode sheet.now) q p) row.old }
 {
-    row[0] = narrow16(q);
-    row[1] = narrow16(p);
-    row[2] = number(sheet[from + k * s + p]);
+    row[0] = q as u16;
+    row[1] = p as u16;
+    row[2] = u16::from(sheet[from + k * s + p]);
     put_nexts(sheet, from + p * s, s, 3, row);
 }
 
@@ -82,8 +72,7 @@ fn put_counts(level: usize, s: usize, n: usize, out: &mut [u8]) -> usize
     ensures { Stored out.old 0 (counts_title ++ line (level ∷ s ∷ n ∷ [])) out.new result }
 {
     let p = put_literal(b"level scenes places\n", out, 0);
-    let row = [narrow16(level), narrow16(s), narrow16(n)];
-    put_row(&row, out, p)
+    put_row(&[level as u16, s as u16, n as u16], out, p)
 }
 
 // The rows of the leading automaton.
@@ -94,11 +83,9 @@ fn put_leading_rows(sheet: &[u8], s: usize, n: usize, out: &mut [u8], at: usize)
 {
     let mut row = [0u16; 35];
     let mut p = at;
-    let mut q = 0;
-    while q < n {
+    for q in 0..n {
         leading_values(sheet, s, n, q, &mut row);
         p = put_row(&row[..s + 2], out, p);
-        q += 1;
     }
     p
 }
@@ -113,11 +100,9 @@ fn put_part(sheet: &[u8], s: usize, q: usize, out: &mut [u8], at: usize) -> usiz
     let from = packed::progress_at(sheet, q);
     let mut row = [0u16; 35];
     let mut r = at;
-    let mut p = 0;
-    while p < k {
+    for p in 0..k {
         progress_values(sheet, s, k, from, q, p, &mut row);
         r = put_row(&row[..s + 3], out, r);
-        p += 1;
     }
     r
 }
@@ -129,10 +114,8 @@ fn put_parts(sheet: &[u8], s: usize, n: usize, out: &mut [u8], at: usize) -> usi
     ensures { Stored out.old at (rows n (part_text (decode sheet.now))) out.new result }
 {
     let mut p = at;
-    let mut q = 0;
-    while q < n {
+    for q in 0..n {
         p = put_part(sheet, s, q, out, p);
-        q += 1;
     }
     p
 }

@@ -1,4 +1,5 @@
 -- Refusals of a product at their places, and their order.
+use Rattle.slices.specs.declared.Reason.TheVariants.{SheetLength, LettersDiffer, ProductSize, TooLittleRoom}
 use mathlib.Core.Path.{◌≡◌, refl}
 use mathlib.Core.List.{List, [], ◌∷◌, ◌++◌}
 use Prim.Native.Nat.{ℕ, ◌+◌, ◌*◌}
@@ -19,20 +20,20 @@ plain s n k = s ∷ n ∷ (replicate n k ++ replicate (n * s + n * k * (s + 1)) 
 
 -- the first sheet, the second, 7, each before what comes after; N before K; K; then the room
 pub refusals :
-    (product_fault Both (2 ∷ []) [] 0 ≡ fault_of 1 First 1) × (product_fault Both (plain 1 3 1) [] 0 ≡ fault_of 1 Second 0)
-    × (product_fault Both (plain 1 3 6) (plain 2 11 6) 0 ≡ fault_of 7 Second 0) × (product_fault Both (plain 1 3 6) (plain 1 11 6) 0 ≡ fault_of 20 Out 33)
-    × (product_fault Both (plain 1 1 6) (plain 1 1 6) 0 ≡ fault_of 20 Out 36) × (product_fault Both (plain 1 1 1) (plain 1 1 2) 7 ≡ fault_of 21 Out 8)
+    (product_fault Both (2 ∷ []) [] 0 ≡ fault_of SheetLength First 1) × (product_fault Both (plain 1 3 1) [] 0 ≡ fault_of SheetLength Second 0)
+    × (product_fault Both (plain 1 3 6) (plain 2 11 6) 0 ≡ fault_of LettersDiffer Second 0) × (product_fault Both (plain 1 3 6) (plain 1 11 6) 0 ≡ fault_of ProductSize Out 33)
+    × (product_fault Both (plain 1 1 6) (plain 1 1 6) 0 ≡ fault_of ProductSize Out 36) × (product_fault Both (plain 1 1 1) (plain 1 1 2) 7 ≡ fault_of TooLittleRoom Out 8)
     × (product_fault Both (plain 1 1 1) (plain 1 1 2) 8 ≡ sound)
 unfolding sheet_fault header_fault tables_fault progress_fault progress_at_value sum first_outside_of least largest tab rows
 refusals = (refl, refl, refl, refl, refl, refl, refl)
 
-pub complements : (complement_fault (2 ∷ []) 0 ≡ fault_of 1 First 1) × (complement_fault (plain 1 1 1) 5 ≡ fault_of 21 Out 6) × (complement_fault (plain 1 1 1) 6 ≡ sound)
+pub complements : (complement_fault (2 ∷ []) 0 ≡ fault_of SheetLength First 1) × (complement_fault (plain 1 1 1) 5 ≡ fault_of TooLittleRoom Out 6) × (complement_fault (plain 1 1 1) 6 ≡ sound)
 unfolding sheet_fault header_fault tables_fault progress_fault progress_at_value sum first_outside_of least largest tab rows
 complements = (refl, refl, refl)
 
 -- 32 places and 32 loop places are allowed
 pub largest-allowed :
-    (product_fault Both (plain 1 4 1) (plain 1 8 1) 0 ≡ fault_of 21 Out 130) × (product_fault Both (plain 1 1 4) (plain 1 1 8) 0 ≡ fault_of 21 Out 68)
+    (product_fault Both (plain 1 4 1) (plain 1 8 1) 0 ≡ fault_of TooLittleRoom Out 130) × (product_fault Both (plain 1 1 4) (plain 1 1 8) 0 ≡ fault_of TooLittleRoom Out 68)
 unfolding sheet_fault header_fault tables_fault progress_fault progress_at_value sum first_outside_of least largest tab rows
 largest-allowed = (refl, refl)
 

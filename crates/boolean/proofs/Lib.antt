@@ -1,5 +1,6 @@
 pub mod Verdicts
-pub mod Joining
-pub mod Extent
 pub mod Flips
+pub mod Joining
+pub mod Cells
+pub mod Extent
 pub mod Example

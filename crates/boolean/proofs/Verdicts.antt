@@ -1,4 +1,5 @@
 -- The sheets that complement, intersection and union write: they are valid, and their verdicts are reversed, both, or either. Assumes nothing.
+use Rattle.slices.specs.declared.Reason.TheVariants.{ProductSize}
 use mathlib.Core.Path.{◌≡◌, ap, sym, ◌∙◌}
 use mathlib.Core.Bool.{not}
 use mathlib.Core.List.{List}
@@ -62,15 +63,15 @@ sizes-few b c h p q hp hq =
 pub sound-pair : (op : Operation) (b c : List ℕ) (cells : ℕ) → product_fault op b c cells ≡ sound → Pair b c
 sound-pair op b c cells e = record {
   alike = sound-alike b c (then-left (pair_fault b c) (pairs then progress then room) e);
-  few_pairs = ltb-false 32 (state_count b * state_count c) (when-sound _ 20 Out _ (then-left pairs (progress then room) rest));
-  few_progress = sizes-few b c (ltb-false 32 (widest (decode b) * widest (decode c)) (when-sound _ 20 Out _ (then-left progress room (then-right pairs (progress then room) rest))));
+  few_pairs = ltb-false 32 (state_count b * state_count c) (when-sound _ ProductSize Out _ (then-left pairs (progress then room) rest));
+  few_progress = sizes-few b c (ltb-false 32 (widest (decode b) * widest (decode c)) (when-sound _ ProductSize Out _ (then-left progress room (then-right pairs (progress then room) rest))));
 }
   where
     pairs : Fault
-    pairs = when (ltb 32 (state_count b * state_count c)) 20 Out (state_count b * state_count c)
+    pairs = when (ltb 32 (state_count b * state_count c)) ProductSize Out (state_count b * state_count c)
 
     progress : Fault
-    progress = when (ltb 32 (widest (decode b) * widest (decode c))) 20 Out (widest (decode b) * widest (decode c))
+    progress = when (ltb 32 (widest (decode b) * widest (decode c))) ProductSize Out (widest (decode b) * widest (decode c))
 
     room : Fault
     room = too_short cells (length (product_bytes op b c))

@@ -1,4 +1,5 @@
 -- What complement, intersection and union say and write, for any bytes. Assumes nothing.
+use Rattle.slices.specs.declared.Reason.TheVariants.{ProductSize, TooLittleRoom}
 use Rattle.std.specs.Prelude.{Bool, ◌&&◌, ◌||◌, List, ℕ, ◌*◌, ◌≤◌, ◌<◌, ltb, length}
 use Rattle.slices.specs.declared.Part.TheVariants.{First, Out}
 use Rattle.slices.specs.Refusals.{Fault, ◌then◌, when}
@@ -12,7 +13,7 @@ use Rattle.boolean.specs.declared.Operation.TheVariants.{Both, Either}
 
 -- 21: the out slice has fewer cells than the result.
 abbrev pub too_short : ℕ → ℕ → Fault
-too_short cells needed = when (ltb cells needed) 21 Out needed
+too_short cells needed = when (ltb cells needed) TooLittleRoom Out needed
 
 -- The bytes of the complement, and when it is refused.
 abbrev pub complement_bytes : List ℕ → List ℕ
@@ -40,8 +41,8 @@ union_bytes b c = pack (union (decode b) (decode c))
 abbrev pub product_fault : Operation → List ℕ → List ℕ → ℕ → Fault
 product_fault op b c cells =
     pair_fault b c
-    then when (ltb 32 (state_count b * state_count c)) 20 Out (state_count b * state_count c)
-    then when (ltb 32 (widest (decode b) * widest (decode c))) 20 Out (widest (decode b) * widest (decode c))
+    then when (ltb 32 (state_count b * state_count c)) ProductSize Out (state_count b * state_count c)
+    then when (ltb 32 (widest (decode b) * widest (decode c))) ProductSize Out (widest (decode b) * widest (decode c))
     then too_short cells (length (product_bytes op b c))
 
 -- Two valid sheets with the same letters whose product has at most 32 states everywhere.

@@ -6,12 +6,10 @@ ghost use Rattle.packed.specs.Layout.{letter_count, state_count, mark, Valid};
 ghost use Rattle.boolean.specs.Operations.{complement_bytes};
 ghost use Rattle.boolean.specs.Pieces.{flipped_mark, flipped_part};
 
-use slices::copy;
-
 fn flipped(m: u8) -> u8
     ensures { result ≡ mark (not (eqb m 1)) }
 {
-    if m == 1 { 0 } else { 1 }
+    u8::from(m != 1)
 }
 
 // Writes the marks, each flipped.
@@ -20,10 +18,8 @@ fn flip_marks(marks: &[u8], out: &mut [u8])
     ensures { out.new
         ≡ written (tab (length marks.now) (flipped_mark marks.now)) out.old }
 {
-    let mut i = 0;
-    while i < marks.len() {
-        out[i] = flipped(marks[i]);
-        i += 1;
+    for (i, &m) in marks.iter().enumerate() {
+        out[i] = flipped(m);
     }
 }
 
@@ -32,7 +28,7 @@ fn flip_part(part: &[u8], count: usize, out: &mut [u8])
     requires { (count ≤ length part.now) × (length part.now ≤ length out.old) }
     ensures { out.new ≡ written (flipped_part part.now count) out.old }
 {
-    copy(&part[..count], out);
+    out[..count].copy_from_slice(&part[..count]);
     flip_marks(&part[count..], &mut out[count..]);
 }
 
@@ -43,13 +39,11 @@ pub fn write_complement(sheet: &[u8], states: usize, letters: usize, out: &mut [
     ensures { out.new ≡ written (complement_bytes sheet.now) out.old }
 {
     let mut at = 2 + states + states * letters;
-    copy(&sheet[..at], out);
-    let mut q = 0;
-    while q < states {
+    out[..at].copy_from_slice(&sheet[..at]);
+    for q in 0..states {
         let k = packed::size(sheet, q);
         let end = at + k * letters + k;
         flip_part(&sheet[at..end], k * letters, &mut out[at..]);
         at = end;
-        q += 1;
     }
 }

@@ -11,73 +11,68 @@ ghost use Rattle.boolean.specs.Operations.{too_short, complement_bytes, compleme
 ghost use Rattle.boolean.specs.Operations.{product_bytes, intersection_bytes, union_bytes, product_fault, Pair};
 
 use flipping::write_complement;
-use packed::Validity;
-use pairing::{PairSizes, Sized};
-use slices::{Part, Written, refuse};
+use pairing::PairSizes;
+use slices::{Part, Reason, Refusal, refuse};
 use writing::{product_length, write_product};
 
 // Which marks of a pair make it marked.
-#[derive(Clone, Copy)]
+#[derive(Clone, Copy, Debug, PartialEq, Eq)]
 pub enum Operation {
     Both,
     Either,
 }
 
 // The complement of a sheet: the same sheet, every mark flipped.
-pub fn complement(sheet: &[u8], out: &mut [u8]) -> Written
+pub fn complement(sheet: &[u8], out: &mut [u8]) -> Result<usize, Refusal>
     ensures { Fills (complement_fault sheet.now (length out.old))
         (complement_bytes sheet.now) out.old out.new result }
 {
-    let validity = packed::check(sheet, Part::First);
-    match validity {
-        Validity::Refused(r) => Written::Refused(r),
-        Validity::Valid(z) => {
-            if out.len() < sheet.len() {
-                return Written::Refused(refuse(21, Part::Out, sheet.len()));
-            }
-            let end = sheet.len();
-            write_complement(sheet, z.states, z.letters, &mut out[..end]);
-            Written::Filled(sheet.len())
-        }
+    let z = packed::check(sheet, Part::First)?;
+    if out.len() < sheet.len() {
+        return Err(refuse(Reason::TooLittleRoom, Part::Out, sheet.len()));
     }
+    let end = sheet.len();
+    write_complement(sheet, z.states, z.letters, &mut out[..end]);
+    Ok(sheet.len())
 }
 
 // The product of two sheets that can have one, where it fits.
-fn fill_product(first: &[u8], second: &[u8], z: PairSizes, op: Operation, out: &mut [u8]) -> Written
+fn fill_product(
+    first: &[u8],
+    second: &[u8],
+    z: PairSizes,
+    op: Operation,
+    out: &mut [u8],
+) -> Result<usize, Refusal>
     requires { Pair first.now second.now × (z ≡ sizes_of first.now second.now) }
     ensures { Fills (too_short (length out.old) (length (product_bytes op first.now second.now)))
         (product_bytes op first.now second.now) out.old out.new result }
 {
     let needed = product_length(first, second, z);
     if out.len() < needed {
-        return Written::Refused(refuse(21, Part::Out, needed));
+        return Err(refuse(Reason::TooLittleRoom, Part::Out, needed));
     }
     write_product(first, second, z, op, out);
-    Written::Filled(needed)
+    Ok(needed)
 }
 
 // The product of two sheets: both are judged, then N and K, then the room.
-fn product(first: &[u8], second: &[u8], op: Operation, out: &mut [u8]) -> Written
+fn product(first: &[u8], second: &[u8], op: Operation, out: &mut [u8]) -> Result<usize, Refusal>
     ensures { Fills (product_fault op first.now second.now (length out.old))
         (product_bytes op first.now second.now) out.old out.new result }
 {
-    let pair = pairing::check(first, second);
-    match pair {
-        Sized::Refused(r) => Written::Refused(r),
-        Sized::Paired(z) => {
-            if 32 < z.pairs {
-                return Written::Refused(refuse(20, Part::Out, z.pairs));
-            }
-            if 32 < z.widest {
-                return Written::Refused(refuse(20, Part::Out, z.widest));
-            }
-            fill_product(first, second, z, op, out)
-        }
+    let z = pairing::check(first, second)?;
+    if 32 < z.pairs {
+        return Err(refuse(Reason::ProductSize, Part::Out, z.pairs));
     }
+    if 32 < z.widest {
+        return Err(refuse(Reason::ProductSize, Part::Out, z.widest));
+    }
+    fill_product(first, second, z, op, out)
 }
 
 // The intersection of two sheets: a pair is marked when both its states are.
-pub fn intersection(first: &[u8], second: &[u8], out: &mut [u8]) -> Written
+pub fn intersection(first: &[u8], second: &[u8], out: &mut [u8]) -> Result<usize, Refusal>
     ensures { Fills (product_fault Operation.Both first.now second.now (length out.old))
         (intersection_bytes first.now second.now) out.old out.new result }
 {
@@ -85,7 +80,7 @@ pub fn intersection(first: &[u8], second: &[u8], out: &mut [u8]) -> Written
 }
 
 // The union of two sheets: a pair is marked when either of its states is.
-pub fn union(first: &[u8], second: &[u8], out: &mut [u8]) -> Written
+pub fn union(first: &[u8], second: &[u8], out: &mut [u8]) -> Result<usize, Refusal>
     ensures { Fills (product_fault Operation.Either first.now second.now (length out.old))
         (union_bytes first.now second.now) out.old out.new result }
 {

@@ -9,7 +9,7 @@ ghost use Rattle.boolean.specs.Pieces.{pair_mark, pair_size, pair_part, product_
 
 use crate::Operation;
 use pairing::{Beside, PairSizes};
-use slices::{narrow, narrow_copy};
+use slices::narrow_copy;
 
 // Writes the next pairs of `count` pairs, as bytes.
 fn write_table(first: &[u8], second: &[u8], t: Beside, count: usize, out: &mut [u8])
@@ -23,18 +23,12 @@ fn write_table(first: &[u8], second: &[u8], t: Beside, count: usize, out: &mut [
     narrow_copy(&table[..end], out);
 }
 
-fn bit(on: bool) -> u8
-    ensures { result ≡ mark on }
-{
-    if on { 1 } else { 0 }
-}
-
 fn joined(op: Operation, a: bool, b: bool) -> u8
     ensures { result ≡ mark (op_of op a b) }
 {
     match op {
-        Operation::Both => { if a { bit(b) } else { 0 } }
-        Operation::Either => { if a { 1 } else { bit(b) } }
+        Operation::Both => u8::from(a && b),
+        Operation::Either => u8::from(a || b),
     }
 }
 
@@ -45,12 +39,10 @@ fn write_marks(first: &[u8], second: &[u8], m: Beside, size: usize, op: Operatio
         ≡ written (tab (size * m.width) (pair_mark op first.now second.now m)) out.old }
 {
     let count = size * m.width;
-    let mut x = 0;
-    while x < count {
+    for (x, cell) in out[..count].iter_mut().enumerate() {
         let a = packed::is_marked(first, m.first, x / m.width);
         let b = packed::is_marked(second, m.second, x % m.width);
-        out[x] = joined(op, a, b);
-        x += 1;
+        *cell = joined(op, a, b);
     }
 }
 
@@ -86,8 +78,7 @@ fn write_pairs(first: &[u8], second: &[u8], z: PairSizes, op: Operation, out: &m
     ensures { out.new ≡ written (product_parts op first.now second.now) out.old }
 {
     let mut at = 0;
-    let mut x = 0;
-    while x < z.pairs {
+    for x in 0..z.pairs {
         at += write_pair(
             first,
             second,
@@ -96,7 +87,6 @@ fn write_pairs(first: &[u8], second: &[u8], z: PairSizes, op: Operation, out: &m
             op,
             &mut out[at..],
         );
-        x += 1;
     }
 }
 
@@ -114,10 +104,8 @@ fn write_sizes(first: &[u8], second: &[u8], z: PairSizes, out: &mut [u8])
     ensures { out.new
         ≡ written (tab z.pairs (pair_size first.now second.now)) out.old }
 {
-    let mut x = 0;
-    while x < z.pairs {
-        out[x] = narrow(size_of(first, second, z, x));
-        x += 1;
+    for (x, cell) in out[..z.pairs].iter_mut().enumerate() {
+        *cell = size_of(first, second, z, x) as u8;
     }
 }
 
@@ -127,8 +115,8 @@ fn write_front(first: &[u8], second: &[u8], z: PairSizes, out: &mut [u8])
     requires letters_in_bounds { 2 + z.pairs + z.pairs * z.letters ≤ length out.old }
     ensures { out.new ≡ written (product_front first.now second.now) out.old }
 {
-    out[0] = narrow(z.letters);
-    out[1] = narrow(z.pairs);
+    out[0] = z.letters as u8;
+    out[1] = z.pairs as u8;
     write_sizes(first, second, z, &mut out[2..]);
     let at = 2 + z.pairs;
     let t = pairing::leads(first, second);
@@ -141,10 +129,8 @@ pub fn product_length(first: &[u8], second: &[u8], z: PairSizes) -> usize
     ensures { result ≡ product_at first.now second.now z.pairs }
 {
     let mut at = 2 + z.pairs + z.pairs * z.letters;
-    let mut x = 0;
-    while x < z.pairs {
+    for x in 0..z.pairs {
         at += size_of(first, second, z, x) * (z.letters + 1);
-        x += 1;
     }
     at
 }

@@ -1,4 +1,6 @@
 -- One transition: what fits is the one that is due, one whose letter and state are due fits, and its text is its line. Assumes nothing.
+use Rattle.slices.specs.declared.Reason.{Reason}
+use Rattle.slices.specs.declared.Reason.TheVariants.{LetterCount, StateCount, NextState}
 use mathlib.Core.Path.{◌≡◌, refl, ap, sym, ◌∙◌}
 use mathlib.Core.Bool.{Bool, true, false, cond, ◌&&◌}
 use mathlib.Core.List.{List, [], ◌∷◌, ◌++◌, append_assoc}
@@ -19,16 +21,16 @@ use Rattle.buchi_import.specs.Text.{transition_line}
 use Rattle.buchi_import.specs.Reading.{turn, due_letter_of, due_state_of, target, from_state, transition}
 
 -- a number in its turn
-turn-was : (limit number i end v : ℕ) → Takes (turn limit number i v) end v → (v ≡ i) × (v ≡ limit → ⊥)
-turn-was limit number i end v h = by (eqb i limit) refl (eqb v limit) refl h
+turn-was : (limit : ℕ) (reason : Reason) (i end v : ℕ) → Takes (turn limit reason i v) end v → (v ≡ i) × (v ≡ limit → ⊥)
+turn-was limit reason i end v h = by (eqb i limit) refl (eqb v limit) refl h
   where
-    by : (a : Bool) → eqb i limit ≡ a → (b : Bool) → eqb v limit ≡ b → Takes (cond (a && b) (record { low = 0; limit = 0; number = number }) (due i)) end v → (v ≡ i) × (v ≡ limit → ⊥)
+    by : (a : Bool) → eqb i limit ≡ a → (b : Bool) → eqb v limit ≡ b → Takes (cond (a && b) (record { low = 0; limit = 0; reason = reason }) (due i)) end v → (v ≡ i) × (v ≡ limit → ⊥)
     by true d true e t = absurd (omega (arith, t.high))
     by true d false e t = (omega (arith, t.low, t.high), eqb-false v limit e)
     by false d b e t = let same : v ≡ i = omega (arith, t.low, t.high) in (same, λ z. eqb-false i limit d (sym same ∙ z))
 
-turn_is : (limit number i end v : ℕ) → v ≡ i → v < limit → limit ≤ 1000 → outside 48 58 end ≡ true → Takes (turn limit number i v) end v
-turn_is limit number i end v e l small ends =
+turn_is : (limit : ℕ) (reason : Reason) (i end v : ℕ) → v ≡ i → v < limit → limit ≤ 1000 → outside 48 58 end ≡ true → Takes (turn limit reason i v) end v
+turn_is limit reason i end v e l small ends =
     let n : i ≡ limit → ⊥ = λ d. omega arith in
     rw (ne_eqb i limit n) (record { low = omega arith; high = omega arith; small = omega arith; ends = ends })
 
@@ -80,13 +82,13 @@ pub record Went (limit m c : ℕ) (ws : List ℕ) : Type 0 where
 module _ (limit m c : ℕ) where
   -- its columns, and what follows them
   abbrev letter_column : ℕ → Column
-  letter_column v = turn 32 2 (due_letter_of m c v) v
+  letter_column v = turn 32 LetterCount (due_letter_of m c v) v
 
   abbrev state_column : ℕ → ℕ → Column
-  state_column a = turn 16 3 (due_state_of m c a)
+  state_column a = turn 16 StateCount (due_state_of m c a)
 
   abbrev target_column : ℕ → Column
-  target_column v = below limit 5
+  target_column v = below limit NextState
 
   abbrev after_letter : List ℕ → Format
   after_letter vs = from_state limit m c (get_or vs 0 0)
@@ -132,15 +134,15 @@ module _ (limit m c : ℕ) where
       whole = cc (a.whole, q.whole, r.1)
 
       letter : (a.number ≡ due_letter_of m c a.number) × (a.number ≡ 32 → ⊥)
-      letter = turn-was 32 2 (due_letter_of m c a.number) 44 a.number a.takes
+      letter = turn-was 32 LetterCount (due_letter_of m c a.number) 44 a.number a.takes
 
       state : (q.number ≡ due_state_of m c a.number) × (q.number ≡ 16 → ⊥)
-      state = turn-was 16 3 (due_state_of m c a.number) 93 q.number q.takes
+      state = turn-was 16 StateCount (due_state_of m c a.number) 93 q.number q.takes
 
   pub goes : (a q r : ℕ) → Due m c a q → a < 32 → q < 16 → r < limit → limit ≤ 1000 → Fits (transition limit m c) (a ∷ q ∷ r ∷ [])
   unfolding transition
   goes a q r d l k b small =
       let due = due-is m c a q d in
-      led-fits (115 ∷ []) letter_column 44 after_letter a (q ∷ r ∷ []) (turn_is 32 2 (due_letter_of m c a) 44 a due.0 l (omega arith) refl)
-      (led-fits (91 ∷ []) (state_column a) 93 after_state q (r ∷ []) (turn_is 16 3 (due_state_of m c a) 93 q due.1 k (omega arith) refl)
+      led-fits (115 ∷ []) letter_column 44 after_letter a (q ∷ r ∷ []) (turn_is 32 LetterCount (due_letter_of m c a) 44 a due.0 l (omega arith) refl)
+      (led-fits (91 ∷ []) (state_column a) 93 after_state q (r ∷ []) (turn_is 16 StateCount (due_state_of m c a) 93 q due.1 k (omega arith) refl)
       (closed-fits (45 ∷ 62 ∷ 91 ∷ []) (10 ∷ []) target_column 93 r (record { low = omega arith; high = b; small = omega arith; ends = refl })))

@@ -1,4 +1,5 @@
 -- The text of an automaton and its sheet, byte for byte, and refusals of texts, each at its place. Assumes nothing.
+use Rattle.slices.specs.declared.Reason.TheVariants.{NextState, OffLayout, OutOfTurn, NoneAccepting}
 use mathlib.Core.Path.{◌≡◌, refl}
 use mathlib.Core.Bool.{true}
 use mathlib.Core.List.{List, [], ◌∷◌, ◌++◌}
@@ -51,27 +52,27 @@ says text = fault_in (numbers_of (bytes text))
 
 -- no text; another start; "[00"; the start alone, and with a carriage return
 pub starts :
-    (says "" ≡ fault_of 11 First 0) × (says "[1" ≡ fault_of 11 First 1) × (says "[00" ≡ fault_of 11 First 2) × (says "[0]\n" ≡ fault_of 11 First 4)
-    × (says "[0]\r\n" ≡ fault_of 11 First 3)
+    (says "" ≡ fault_of OffLayout First 0) × (says "[1" ≡ fault_of OffLayout First 1) × (says "[00" ≡ fault_of OffLayout First 2) × (says "[0]\n" ≡ fault_of OffLayout First 4)
+    × (says "[0]\r\n" ≡ fault_of OffLayout First 3)
 unfolding numbers_of numbers_below transitions transition accepting_states accepting_state count_below reading seq each chained labelled repeated repeats least number_at_value run_of value_of first_outside_of
 starts = (refl, refl, refl, refl, refl)
 
--- the same line again: 12 at the source; after two letters of state 0 letter 1 of state 1 lacks; letter 2 where 1 or 0 is due; letter 1 of
+-- the same line again: out of turn at the source; after two letters of state 0 letter 1 of state 1 lacks; letter 2 where 1 or 0 is due; letter 1 of
 -- state 1 where letter 1 is due of state 0
 pub turns :
-    (says "[0]\ns0,[0]->[0]\ns0,[0]->[0]\n" ≡ fault_of 12 First 20)
-    × (says "[0]\ns0,[0]->[0]\ns1,[0]->[0]\ns0,[1]->[0]\n[0]\n" ≡ fault_of 11 First 40)
-    × (says "[0]\ns0,[0]->[0]\ns2" ≡ fault_of 12 First 17) × (says "[0]\ns0,[0]->[0]\ns1,[1" ≡ fault_of 12 First 20)
+    (says "[0]\ns0,[0]->[0]\ns0,[0]->[0]\n" ≡ fault_of OutOfTurn First 20)
+    × (says "[0]\ns0,[0]->[0]\ns1,[0]->[0]\ns0,[1]->[0]\n[0]\n" ≡ fault_of OffLayout First 40)
+    × (says "[0]\ns0,[0]->[0]\ns2" ≡ fault_of OutOfTurn First 17) × (says "[0]\ns0,[0]->[0]\ns1,[1" ≡ fault_of OutOfTurn First 20)
 unfolding numbers_of numbers_below transitions transition accepting_states accepting_state count_below reading seq each chained labelled repeated repeats least number_at_value run_of value_of first_outside_of
 turns = (refl, refl, refl, refl)
 
 -- no accepting state, where a target is too large; the end within a line; that target once all else is good; an accepting state again; one
 -- that is too large, and an equal one after it; a transition after an accepting state; a byte that begins no line, before any accepting state: it
--- is 11 that goes before 13
+-- is off the layout, which goes before none accepting
 pub stages :
-    (says "[0]\ns0,[0]->[99]\n" ≡ fault_of 13 First 17) × (says "[0]\ns0,[0]->[99]\n[" ≡ fault_of 11 First 18)
-    × (says "[0]\ns0,[0]->[99]\n[0]\n" ≡ fault_of 5 First 13) × (says "[0]\ns0,[0]->[0]\n[0]\n[0]\n" ≡ fault_of 12 First 21)
-    × (says "[0]\ns0,[0]->[0]\n[1]\n" ≡ fault_of 5 First 17) × (says "[0]\ns0,[0]->[0]\n[1]\n[1]\n" ≡ fault_of 12 First 21)
-    × (says "[0]\ns0,[0]->[0]\n[0]\ns0,[0]->[0]\n" ≡ fault_of 11 First 20) × (says "[0]\ns0,[0]->[0]\nx" ≡ fault_of 11 First 16)
+    (says "[0]\ns0,[0]->[99]\n" ≡ fault_of NoneAccepting First 17) × (says "[0]\ns0,[0]->[99]\n[" ≡ fault_of OffLayout First 18)
+    × (says "[0]\ns0,[0]->[99]\n[0]\n" ≡ fault_of NextState First 13) × (says "[0]\ns0,[0]->[0]\n[0]\n[0]\n" ≡ fault_of OutOfTurn First 21)
+    × (says "[0]\ns0,[0]->[0]\n[1]\n" ≡ fault_of NextState First 17) × (says "[0]\ns0,[0]->[0]\n[1]\n[1]\n" ≡ fault_of OutOfTurn First 21)
+    × (says "[0]\ns0,[0]->[0]\n[0]\ns0,[0]->[0]\n" ≡ fault_of OffLayout First 20) × (says "[0]\ns0,[0]->[0]\nx" ≡ fault_of OffLayout First 16)
 unfolding numbers_of numbers_below transitions transition accepting_states accepting_state count_below reading seq each chained labelled repeated repeats least number_at_value run_of value_of first_outside_of
 stages = (refl, refl, refl, refl, refl, refl, refl, refl)

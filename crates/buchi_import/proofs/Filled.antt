@@ -1,4 +1,6 @@
 -- What the second reading found, as it lies in the slices, is the automaton that it says. Assumes nothing.
+use Rattle.slices.specs.declared.Reason.TheVariants.{TooLittleRoom}
+use Rattle.std.specs.Prelude.{Result, Ok, Err}
 use mathlib.Core.Path.{◌≡◌, refl, ap, sym, subst, ◌∙◌}
 use mathlib.Core.Bool.{Bool, true, false, cond}
 use mathlib.Core.List.{List}
@@ -9,8 +11,7 @@ use lib.ListN.{length, get_or, replicate, length-replicate, get_or-replicate, dr
 use borrow.Author.Tests.{lt-ltb, le-ltb}
 use Rattle.slices.specs.declared.Part.TheVariants.{Out}
 use Rattle.slices.specs.declared.Refusal.{Refusal}
-use Rattle.slices.specs.declared.Written.{Written}
-use Rattle.slices.specs.Refusals.{sound, fault, fault_of, ◌then◌, when, Result, given, refused, fault_in}
+use Rattle.slices.specs.Refusals.{sound, fault, fault_of, ◌then◌, when, fault_in}
 use Rattle.slices.proofs.Refusals.{when-fails, when-passes, given-was, mapped-given, mapped-refused}
 use Rattle.slices.specs.Filling.{written, Fills}
 use Rattle.slices.proofs.Tables.{length-tab, get_or-tab, get_or-first}
@@ -18,31 +19,30 @@ use Rattle.fdfa.specs.Buchi.{SameDba, from_buchi}
 use Rattle.packed.specs.Layout.{pack}
 use Rattle.numbers.proofs.Stores.{stored-written, stored-length}
 use Rattle.buchi_import.specs.declared.Drawn.{Drawn}
-use Rattle.buchi_import.specs.declared.Drawn.TheVariants as drawn
 use Rattle.buchi_import.specs.Reading.{Numbers, move_count, letters_in, states_in, numbers_below, again, numbers_of, is_in, automaton_of, bytes_in, pack_fault}
-use Rattle.buchi_import.specs.Steps.{Sizes, sizes_of, drawn_says, targets_in, TextRead, automaton_in, Stocked}
+use Rattle.buchi_import.specs.Steps.{sizes_of, targets_in, TextRead, automaton_in, Stocked}
 use Rattle.buchi_import.proofs.Numbers.{Was, numbers-was}
 use Rattle.buchi_import.proofs.Stages.{wider}
 use Rattle.buchi_import.proofs.Automata.{formed, few_letters, some_letters, few_states, some_states, product, within, was-complete}
 use Rattle.buchi_import.proofs.Sheets.{few_moves, sheet-long, same-pack}
 
 -- what was read, from what is said of it
-abbrev sizes : Numbers → Sizes
+abbrev sizes : Numbers → Drawn
 sizes w = record { letters = letters_in w.moves; states = states_in w.moves }
 
-pub lost : (x : Result Numbers) {r : Refusal} → sizes_of x ≡ refused r → x ≡ refused r
+pub lost : (x : Result Numbers Refusal) {r : Refusal} → sizes_of x ≡ Err r → x ≡ Err r
 lost x e = mapped-refused sizes x e
 
-pub sized : (x : Result Numbers) {s n : ℕ} → sizes_of x ≡ given (record { letters = s; states = n }) → (w : Numbers) × (x ≡ given w) × (letters_in w.moves ≡ s) × (states_in w.moves ≡ n)
-sized x e = let g = mapped-given sizes x e in (g.0, g.1, ap (λ (z : Sizes). z.letters) g.2, ap (λ (z : Sizes). z.states) g.2)
+pub sized : (x : Result Numbers Refusal) {s n : ℕ} → sizes_of x ≡ Ok (record { letters = s; states = n }) → (w : Numbers) × (x ≡ Ok w) × (letters_in w.moves ≡ s) × (states_in w.moves ≡ n)
+sized x e = let g = mapped-given sizes x e in (g.0, g.1, ap (λ (z : Drawn). z.letters) g.2, ap (λ (z : Drawn). z.states) g.2)
 
 noted-is : (b : Bool) → eqb (cond b 1 0) 1 ≡ b
 noted-is true = refl
 noted-is false = refl
 
-module _ (t : List ℕ) (n : ℕ) {ts ms : List ℕ} {r : Drawn} (d : TextRead (numbers_below n t) (replicate 512 0) ts (replicate 16 0) ms r) (first : (w : Numbers) × (numbers_below 1000 t ≡ given w) × (states_in w.moves ≡ n)) {s m : ℕ} (e : r ≡ drawn.Sized s m) where
-  found : (w : Numbers) × (numbers_below n t ≡ given w) × (letters_in w.moves ≡ s) × (states_in w.moves ≡ m)
-  found = sized (numbers_below n t) (sym d.says ∙ ap drawn_says e)
+module _ (t : List ℕ) (n : ℕ) {ts ms : List ℕ} {r : Result Drawn Refusal} (d : TextRead (numbers_below n t) (replicate 512 0) ts (replicate 16 0) ms r) (first : (w : Numbers) × (numbers_below 1000 t ≡ Ok w) × (states_in w.moves ≡ n)) {s m : ℕ} (e : r ≡ Ok (record { letters = s; states = m })) where
+  found : (w : Numbers) × (numbers_below n t ≡ Ok w) × (letters_in w.moves ≡ s) × (states_in w.moves ≡ m)
+  found = sized (numbers_below n t) (sym d.says ∙ e)
 
   abbrev w : Numbers
   w = found.0
@@ -97,23 +97,23 @@ module _ (t : List ℕ) (n : ℕ) {ts ms : List ℕ} {r : Drawn} (d : TextRead (
   pub sheet-size : length (bytes_in (numbers_below n t)) ≡ 2 + m + m * s + m * (2 * m * (s + 1))
   sheet-size = ap length sheet ∙ sheet-long s m (automaton_in s m ts ms) refl refl
 
-  whole : (room : ℕ) → pack_fault (numbers_below n t) room ≡ when (ltb room (2 + m + m * s + m * (2 * m * (s + 1)))) 21 Out (2 + m + m * s + m * (2 * m * (s + 1)))
+  whole : (room : ℕ) → pack_fault (numbers_below n t) room ≡ when (ltb room (2 + m + m * s + m * (2 * m * (s + 1)))) TooLittleRoom Out (2 + m + m * s + m * (2 * m * (s + 1)))
   whole room =
-      ap (λ (x : Result Numbers). fault_in x then when (ltb room (length (bytes_in (numbers_below n t)))) 21 Out (length (bytes_in (numbers_below n t)))) found.1
-      ∙ ap (λ (k : ℕ). when (ltb room k) 21 Out k) sheet-size
+      ap (λ (x : Result Numbers Refusal). fault_in x then when (ltb room (length (bytes_in (numbers_below n t)))) TooLittleRoom Out (length (bytes_in (numbers_below n t)))) found.1
+      ∙ ap (λ (k : ℕ). when (ltb room k) TooLittleRoom Out k) sheet-size
 
-  pub short : {room len : ℕ} → len ≡ 2 + m + m * s + m * (2 * m * (s + 1)) → room < len → pack_fault (numbers_below n t) room ≡ fault_of 21 Out len
-  short {room} {len} e h = whole room ∙ (ap (λ (k : ℕ). when (ltb room k) 21 Out k) (sym e) ∙ when-fails 21 Out len (lt-ltb room len h))
+  pub short : {room len : ℕ} → len ≡ 2 + m + m * s + m * (2 * m * (s + 1)) → room < len → pack_fault (numbers_below n t) room ≡ fault_of TooLittleRoom Out len
+  short {room} {len} e h = whole room ∙ (ap (λ (k : ℕ). when (ltb room k) TooLittleRoom Out k) (sym e) ∙ when-fails TooLittleRoom Out len (lt-ltb room len h))
 
   pub enough : {room len : ℕ} → len ≡ 2 + m + m * s + m * (2 * m * (s + 1)) → len ≤ room → pack_fault (numbers_below n t) room ≡ sound
-  enough {room} {len} e h = whole room ∙ (ap (λ (k : ℕ). when (ltb room k) 21 Out k) (sym e) ∙ when-passes 21 Out len (le-ltb room len h))
+  enough {room} {len} e h = whole room ∙ (ap (λ (k : ℕ). when (ltb room k) TooLittleRoom Out k) (sym e) ∙ when-passes TooLittleRoom Out len (le-ltb room len h))
 
 -- a text that is refused
-pub text-lost : (x : Result Numbers) (room : ℕ) {r : Refusal} → x ≡ refused r → pack_fault x room ≡ fault r
-text-lost x room e = ap (λ (y : Result Numbers). pack_fault y room) e
+pub text-lost : (x : Result Numbers Refusal) (room : ℕ) {r : Refusal} → x ≡ Err r → pack_fault x room ≡ fault r
+text-lost x room e = ap (λ (y : Result Numbers Refusal). pack_fault y room) e
 
 -- the second reading is the answer
-pub fills-again : (t : List ℕ) {n : ℕ} {old out : List ℕ} {r : Written} → (w : Numbers) × (numbers_below 1000 t ≡ given w) × (states_in w.moves ≡ n)
+pub fills-again : (t : List ℕ) {n : ℕ} {old out : List ℕ} {r : Result ℕ Refusal} → (w : Numbers) × (numbers_below 1000 t ≡ Ok w) × (states_in w.moves ≡ n)
     → Fills (pack_fault (numbers_below n t) (length old)) (bytes_in (numbers_below n t)) old out r → Fills (pack_fault (numbers_of t) (length old)) (bytes_in (numbers_of t)) old out r
 unfolding numbers_of
-fills-again t {n} {old} {out} {r} f h = subst (λ (x : Result Numbers). Fills (pack_fault x (length old)) (bytes_in x) old out r) (sym (ap (again t) f.1 ∙ ap (λ (k : ℕ). numbers_below k t) f.2)) h
+fills-again t {n} {old} {out} {r} f h = subst (λ (x : Result Numbers Refusal). Fills (pack_fault x (length old)) (bytes_in x) old out r) (sym (ap (again t) f.1 ∙ ap (λ (k : ℕ). numbers_below k t) f.2)) h

@@ -1,11 +1,11 @@
 -- Transitions that were read end within the text, and are at most 16 for each letter. Assumes nothing.
+use Rattle.std.specs.Prelude.{Ok}
 use mathlib.Core.Path.{◌≡◌, ap}
 use mathlib.Core.List.{List}
 use Prim.Native.Nat.{ℕ, ◌*◌, ◌≤◌}
 use native.Mathlib.Omega.{arith}
 use lib.ListN.{length}
 use Rattle.slices.specs.declared.Part.TheVariants.{First}
-use Rattle.slices.specs.Refusals.{given}
 use Rattle.format.specs.Format.{Found}
 use Rattle.format.specs.Lines.{repeats, repeated}
 use Rattle.format.proofs.Inverse.{Read}
@@ -14,7 +14,7 @@ use Rattle.buchi_import.specs.Reading.{transition, transitions, of_start, move_c
 use Rattle.buchi_import.proofs.Transitions.{Shape, shape, moves-begin}
 use Rattle.buchi_import.proofs.Moving.{move-count}
 
-module _ (limit : ℕ) (t : List ℕ) (at : ℕ) (h : at ≤ length t) (w : Found) (e : repeated First t 115 (transitions limit) at ≡ given w) where
+module _ (limit : ℕ) (t : List ℕ) (at : ℕ) (h : at ≤ length t) (w : Found) (e : repeated First t 115 (transitions limit) at ≡ Ok w) where
   m : ℕ
   m = repeats First t 115 (transitions limit) at
 

@@ -1,5 +1,6 @@
 -- Reading succeeds exactly on the texts of drawable automata, each text being of one, and fills the packed sheet of that very automaton's
 -- family; in terms of what is refused. Assumes nothing.
+use Rattle.slices.specs.declared.Reason.TheVariants.{TooLittleRoom}
 use mathlib.Core.Path.{◌≡◌, ap, sym, subst, ◌∙◌}
 use mathlib.Core.List.{List}
 use Prim.Native.Nat.{ℕ}
@@ -25,10 +26,10 @@ module _ (D : Dba) (d : Drawable D) where
   unfolding bytes_of
   text-bytes = let w = text-read D d in ap bytes_in w.1 ∙ sym (same-pack D (automaton_of w.0) d.complete w.2)
 
-  -- for every out slice: 21 where it is too short, else the sheet
-  pub text-room : (room : ℕ) → read_fault (buchi_text D) room ≡ when (ltb room (length (pack (from_buchi D)))) 21 Out (length (pack (from_buchi D)))
+  -- for every out slice: too little room where it is too short, else the sheet
+  pub text-room : (room : ℕ) → read_fault (buchi_text D) room ≡ when (ltb room (length (pack (from_buchi D)))) TooLittleRoom Out (length (pack (from_buchi D)))
   unfolding read_fault bytes_of
-  text-room room = passed _ text-sound ∙ ap (λ (x : List ℕ). when (ltb room (length x)) 21 Out (length x)) text-bytes
+  text-room room = passed _ text-sound ∙ ap (λ (x : List ℕ). when (ltb room (length x)) TooLittleRoom Out (length x)) text-bytes
 
 -- a text that is not refused is that of a drawable automaton, and the bytes are its family's
 pub sound-text : (t : List ℕ) (room : ℕ) → read_fault t room ≡ sound → (D : Dba) × Drawable D × (buchi_text D ≡ t) × (bytes_of t ≡ pack (from_buchi D))

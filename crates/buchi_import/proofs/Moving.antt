@@ -1,4 +1,5 @@
 -- Transitions as the loop reads them. Assumes nothing.
+use Rattle.std.specs.Prelude.{Result, Ok, Err}
 use mathlib.Core.Path.{◌≡◌, refl, ap, sym, subst, ◌∙◌}
 use mathlib.Core.Bool.{Bool, true, false, cond}
 use mathlib.Core.List.{List, [], ◌∷◌, ◌++◌}
@@ -11,7 +12,6 @@ use lib.ListN.{length, get_or}
 use borrow.Author.Tests.{eqb-true, eqb-false}
 use Rattle.slices.specs.declared.Part.TheVariants.{First}
 use Rattle.slices.specs.declared.Refusal.{Refusal}
-use Rattle.slices.specs.Refusals.{given, refused}
 use Rattle.slices.proofs.Refusals.{never-given, given-was}
 use Rattle.slices.specs.Tables.{tab}
 use Rattle.slices.proofs.Tables.{length-tab, tab-same}
@@ -25,7 +25,7 @@ use Rattle.format.proofs.Going.{Going, going-none, going_more, going-all, going-
 use Rattle.format.proofs.Chained.{chained-none, chained-next}
 use Rattle.buchi_import.specs.declared.Moves.{Moves}
 use Rattle.buchi_import.specs.Reading.{transition, transitions, of_start, move_count, letters_in}
-use Rattle.buchi_import.specs.Steps.{extent_of, moves_say, targets_in, MovesRead}
+use Rattle.buchi_import.specs.Steps.{moves_of, targets_in, MovesRead}
 use Rattle.buchi_import.proofs.Transitions.{kept, last-target, one_more, as_many, Shape, shape, moves-begin}
 
 -- one transition more is counted if its state is 0
@@ -62,11 +62,11 @@ module _ {limit : ℕ} {t : List ℕ} {at : ℕ} {old new : List ℕ} {p m c : �
   pub moving-few : (m ≤ 16 * c) × (c ≤ 32)
   moving-few = (omega (arith, turns.few_moves, s.first), omega (arith, turns.few_letters, s.first))
 
-  module _ {a q r e : ℕ} (d : reading First t (transition limit m c) p ≡ given (record { values = a ∷ q ∷ r ∷ []; next = e })) where
+  module _ {a q r e : ℕ} (d : reading First t (transition limit m c) p ≡ Ok (record { values = a ∷ q ∷ r ∷ []; next = e })) where
     abbrev more : List ℕ
     more = s.values ++ (a ∷ q ∷ r ∷ [])
 
-    here : reading First t (transition limit m (of_start m s.values)) p ≡ given (record { values = a ∷ q ∷ r ∷ []; next = e })
+    here : reading First t (transition limit m (of_start m s.values)) p ≡ Ok (record { values = a ∷ q ∷ r ∷ []; next = e })
     here = ap (λ (k : ℕ). reading First t (transition limit m k) p) (sym s.first) ∙ d
 
     line : Read t (transition limit m (of_start m s.values)) p (record { values = a ∷ q ∷ r ∷ []; next = e })
@@ -75,7 +75,7 @@ module _ {limit : ℕ} {t : List ℕ} {at : ℕ} {old new : List ℕ} {p m c : �
     ahead : p < e
     ahead = let b = moves-begin limit m s.values (a ∷ q ∷ r ∷ []) line.fits in omega (arith, line.next, ap length b.1)
 
-    says : reading First t (transitions limit (m + 1)) at ≡ given (record { values = more; next = e })
+    says : reading First t (transitions limit (m + 1)) at ≡ Ok (record { values = more; next = e })
     unfolding transitions
     says = chained-next First t (λ i vs. transition limit i (of_start i vs)) at m s.going.says here
 
@@ -104,20 +104,20 @@ module _ {limit : ℕ} {t : List ℕ} {at : ℕ} {old new : List ℕ} {p m c : �
   letters : c ≡ letters_in s.values
   letters = s.first ∙ ap (λ (k : ℕ). of_start k s.values) count
 
-  module _ {r : Moves} where
-    pub moving-all : stands t 115 p ≡ false → moves_say r ≡ given (record { count = m; of-start = c; next = p }) → MovesRead (repeated First t 115 (transitions limit) at) old new r
+  module _ {r : Result Moves Refusal} where
+    pub moving-all : stands t 115 p ≡ false → r ≡ Ok (record { count = m; of_start = c; next = p }) → MovesRead (repeated First t 115 (transitions limit) at) old new r
     moving-all g d = record {
-      says = d ∙ ((λ i. given (record { count = count i; of-start = letters i; next = p })) ∙ ap extent_of (sym all));
+      says = d ∙ ((λ i. Ok (record { count = count i; of_start = letters i; next = p })) ∙ ap moves_of (sym all));
       same = stored-length s.stored;
       cells = λ w k. subst (λ (z : Found). Stored old 0 (targets_in z.values) new (move_count z.values)) (given-was (sym all ∙ k)) (subst (λ (n : ℕ). Stored old 0 (tab n (λ i. get_or s.values (3 * i + 2) 0)) new n) count s.stored);
     }
       where
-        all : repeated First t 115 (transitions limit) at ≡ given (record { values = s.values; next = p })
+        all : repeated First t 115 (transitions limit) at ≡ Ok (record { values = s.values; next = p })
         all = going-all s.going g
 
-    pub moving-refused : {x : Refusal} {end : List ℕ} → stands t 115 p ≡ true → reading First t (transition limit m c) p ≡ refused x → moves_say r ≡ refused x → length end ≡ length old → MovesRead (repeated First t 115 (transitions limit) at) old end r
+    pub moving-refused : {x : Refusal} {end : List ℕ} → stands t 115 p ≡ true → reading First t (transition limit m c) p ≡ Err x → r ≡ Err x → length end ≡ length old → MovesRead (repeated First t 115 (transitions limit) at) old end r
     unfolding transitions
-    moving-refused {x} g e d l = record { says = d ∙ ap extent_of (sym all); same = l; cells = λ w k. absurd (never-given (sym all ∙ k)) }
+    moving-refused {x} g e d l = record { says = d ∙ ap moves_of (sym all); same = l; cells = λ w k. absurd (never-given (sym all ∙ k)) }
       where
-        all : repeated First t 115 (transitions limit) at ≡ refused x
+        all : repeated First t 115 (transitions limit) at ≡ Err x
         all = going-refused s.going g (chained-next First t (λ i vs. transition limit i (of_start i vs)) at m s.going.says (ap (λ (k : ℕ). reading First t (transition limit m k) p) (sym s.first) ∙ e))

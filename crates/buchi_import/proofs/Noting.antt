@@ -1,4 +1,5 @@
 -- Accepting states as the loop reads them. Assumes nothing.
+use Rattle.std.specs.Prelude.{Result, Ok, Err}
 use mathlib.Core.Path.{◌≡◌, refl, ap, sym, subst, ◌∙◌}
 use mathlib.Core.Bool.{Bool, true, false, cond, ◌||◌}
 use mathlib.Core.List.{List, [], ◌∷◌, ◌++◌}
@@ -11,12 +12,11 @@ use native.Mathlib.Decide.{ℕ_discrete}
 use borrow.Author.Tests.{eq-eqb, ne_eqb}
 use Rattle.slices.specs.declared.Part.TheVariants.{First}
 use Rattle.slices.specs.declared.Refusal.{Refusal}
-use Rattle.slices.specs.Refusals.{given, refused}
 use Rattle.slices.proofs.Refusals.{never-given, given-was}
 use Rattle.slices.proofs.Tables.{get_or-second}
-use Rattle.format.specs.declared.Lines.{Lines}
+use Rattle.format.specs.declared.Extent.{Extent}
 use Rattle.format.specs.Format.{Found, stands, reading, literal}
-use Rattle.format.specs.Lines.{repeated, extent, lines_say}
+use Rattle.format.specs.Lines.{repeated, extent}
 use Rattle.format.proofs.Inverse.{Read, reading-was}
 use Rattle.format.proofs.Going.{Going, going-none, going_more, going-all, going-refused}
 use Rattle.format.proofs.Chained.{chained-none, chained-next}
@@ -93,8 +93,8 @@ module _ {limit : ℕ} {t : List ℕ} {at : ℕ} {old new : List ℕ} {p k low :
   rises : Rising limit k s.values
   rises = rising-was limit k s.values (reading-was First t (accepting_states limit k) at _ h s.going.says).fits
 
-  module _ {v e : ℕ} (d : reading First t (accepting_state limit low) p ≡ given (record { values = v ∷ []; next = e })) where
-    here : reading First t (accepting_state limit (after_last k s.values)) p ≡ given (record { values = v ∷ []; next = e })
+  module _ {v e : ℕ} (d : reading First t (accepting_state limit low) p ≡ Ok (record { values = v ∷ []; next = e })) where
+    here : reading First t (accepting_state limit (after_last k s.values)) p ≡ Ok (record { values = v ∷ []; next = e })
     here = ap (λ (n : ℕ). reading First t (accepting_state limit n) p) (sym s.above) ∙ d
 
     line : Read t (accepting_state limit (after_last k s.values)) p (record { values = v ∷ []; next = e })
@@ -103,7 +103,7 @@ module _ {limit : ℕ} {t : List ℕ} {at : ℕ} {old new : List ℕ} {p k low :
     ahead : p < e
     ahead = let b = accepting-begin limit k s.values (v ∷ []) line.fits in omega (arith, line.next, ap length b.1)
 
-    says : reading First t (accepting_states limit (k + 1)) at ≡ given (record { values = s.values ++ (v ∷ []); next = e })
+    says : reading First t (accepting_states limit (k + 1)) at ≡ Ok (record { values = s.values ++ (v ∷ []); next = e })
     unfolding accepting_states
     says = chained-next First t (λ i vs. accepting_state limit (after_last i vs)) at k s.going.says here
 
@@ -125,20 +125,20 @@ module _ {limit : ℕ} {t : List ℕ} {at : ℕ} {old new : List ℕ} {p k low :
       noted = noted_more s.noted x;
     }
 
-  module _ {r : Lines} where
-    pub noting-all : stands t 91 p ≡ false → lines_say r ≡ given (record { count = k; next = p }) → AcceptingRead (repeated First t 91 (accepting_states limit) at) old new r
+  module _ {r : Result Extent Refusal} where
+    pub noting-all : stands t 91 p ≡ false → r ≡ Ok (record { count = k; next = p }) → AcceptingRead (repeated First t 91 (accepting_states limit) at) old new r
     noting-all g d = record {
-      says = d ∙ (ap (λ (n : ℕ). given (record { count = n; next = p })) (sym rises.long) ∙ ap extent (sym all));
+      says = d ∙ (ap (λ (n : ℕ). Ok (record { count = n; next = p })) (sym rises.long) ∙ ap extent (sym all));
       same = s.noted.same;
       cells = λ w q. subst (λ (z : Found). Noted old z.values new) (given-was (sym all ∙ q)) s.noted;
     }
       where
-        all : repeated First t 91 (accepting_states limit) at ≡ given (record { values = s.values; next = p })
+        all : repeated First t 91 (accepting_states limit) at ≡ Ok (record { values = s.values; next = p })
         all = going-all s.going g
 
-    pub noting-refused : {x : Refusal} {end : List ℕ} → stands t 91 p ≡ true → reading First t (accepting_state limit low) p ≡ refused x → lines_say r ≡ refused x → length end ≡ length old → AcceptingRead (repeated First t 91 (accepting_states limit) at) old end r
+    pub noting-refused : {x : Refusal} {end : List ℕ} → stands t 91 p ≡ true → reading First t (accepting_state limit low) p ≡ Err x → r ≡ Err x → length end ≡ length old → AcceptingRead (repeated First t 91 (accepting_states limit) at) old end r
     unfolding accepting_states
     noting-refused {x} g e d l = record { says = d ∙ ap extent (sym all); same = l; cells = λ w q. absurd (never-given (sym all ∙ q)) }
       where
-        all : repeated First t 91 (accepting_states limit) at ≡ refused x
+        all : repeated First t 91 (accepting_states limit) at ≡ Err x
         all = going-refused s.going g (chained-next First t (λ i vs. accepting_state limit (after_last i vs)) at k s.going.says (ap (λ (n : ℕ). reading First t (accepting_state limit n) p) (sym s.above) ∙ e))

@@ -1,4 +1,6 @@
 -- The numbers of a text: what is read is a text of numbers that fit, and such a text is read. Assumes nothing.
+use Rattle.std.specs.Prelude.{Result, Ok, Err}
+use Rattle.slices.specs.declared.Refusal.{Refusal}
 use mathlib.Core.Path.{◌≡◌, refl, ap, sym, subst, ◌∙◌}
 use mathlib.Core.Bool.{false}
 use mathlib.Core.List.{List, [], ◌∷◌, ◌++◌}
@@ -6,7 +8,6 @@ use Prim.Native.Nat.{ℕ, zero, suc, ◌+◌, ◌%◌, ◌≤◌, ◌<◌}
 use native.Mathlib.Omega.{arith}
 use lib.ListN.{length, length-append}
 use Rattle.slices.specs.declared.Part.TheVariants.{First}
-use Rattle.slices.specs.Refusals.{Result, given, refused}
 use Rattle.slices.proofs.Refusals.{never-given}
 use Rattle.numbers.proofs.Standing.{At, at-append, at_left, at_right, at_self, at-whole}
 use Rattle.format.specs.Format.{Found, stands, reading, printed, Fits, literal}
@@ -38,11 +39,11 @@ counts limit m vs h = omega (arith, (shape limit m vs h).long)
 
 -- what is read is the text of the numbers found
 module _ (limit : ℕ) (t : List ℕ) where
-  moves-was : (at : ℕ) (g : Found) → at ≤ length t → repeated First t 115 (transitions limit) at ≡ given g → Read t (transitions limit (repeats First t 115 (transitions limit) at)) at g
+  moves-was : (at : ℕ) (g : Found) → at ≤ length t → repeated First t 115 (transitions limit) at ≡ Ok g → Read t (transitions limit (repeats First t 115 (transitions limit) at)) at g
   unfolding transitions
   moves-was at g h e = chained-was (λ i vs. transition limit i (of_start i vs)) 115 (moves-begin limit) t at First g h e
 
-  accepting-was : (at : ℕ) (g : Found) → at ≤ length t → repeated First t 91 (accepting_states limit) at ≡ given g → Read t (accepting_states limit (repeats First t 91 (accepting_states limit) at)) at g
+  accepting-was : (at : ℕ) (g : Found) → at ≤ length t → repeated First t 91 (accepting_states limit) at ≡ Ok g → Read t (accepting_states limit (repeats First t 91 (accepting_states limit) at)) at g
   unfolding accepting_states
   accepting-was at g h e = chained-was (λ i vs. accepting_state limit (after_last i vs)) 91 (accepting-begin limit) t at First g h e
 
@@ -92,21 +93,21 @@ module _ (limit : ℕ) (t : List ℕ) where
       second : At t (4 + length x) y
       second = subst (λ (i : ℕ). At t i y) at_y c.here
 
-  pub numbers-was : (w : Numbers) → numbers_below limit t ≡ given w → Was limit t w
+  pub numbers-was : (w : Numbers) → numbers_below limit t ≡ Ok w → Was limit t w
   unfolding numbers_below
   numbers-was w d = begun (reading First t (literal start_line) 0) refl d
     where
-      moving : (f : Found) → Read t (literal start_line) 0 f → (z : Result Found) → repeated First t 115 (transitions limit) f.next ≡ z → moved limit t z ≡ given w → Was limit t w
-      moving f a (refused r) e k = absurd (never-given k)
-      moving f a (given g) e k =
+      moving : (f : Found) → Read t (literal start_line) 0 f → (z : Result Found Refusal) → repeated First t 115 (transitions limit) f.next ≡ z → moved limit t z ≡ Ok w → Was limit t w
+      moving f a (Err r) e k = absurd (never-given k)
+      moving f a (Ok g) e k =
           let b = moves-was f.next g (omega (arith, a.next, a.here.within)) e in
           let z = moved-was limit t g.values g.next w k in
           let c = accepting-was g.next z.found (omega (arith, b.next, b.here.within)) z.says in
           subst (Was limit t) (sym z.answer) (joined f g z.found _ _ a b (moved-whole limit t g.values g.next w k) c z.end z.some)
 
-      begun : (z : Result Found) → reading First t (literal start_line) 0 ≡ z → started limit t z ≡ given w → Was limit t w
-      begun (refused r) e k = absurd (never-given k)
-      begun (given f) e k = moving f (reading-was First t (literal start_line) 0 f (omega arith) e) (repeated First t 115 (transitions limit) f.next) refl k
+      begun : (z : Result Found Refusal) → reading First t (literal start_line) 0 ≡ z → started limit t z ≡ Ok w → Was limit t w
+      begun (Err r) e k = absurd (never-given k)
+      begun (Ok f) e k = moving f (reading-was First t (literal start_line) 0 f (omega arith) e) (repeated First t 115 (transitions limit) f.next) refl k
 
 -- the text of numbers that fit is read, to those numbers
 module _ (limit m k : ℕ) (moves finals : List ℕ) (fits : Fits (transitions limit m) moves) (fit : Fits (accepting_states limit k) finals) (some : 0 < m) (even : m % of_start m moves ≡ 0) (final : 0 < k) where
@@ -125,10 +126,10 @@ module _ (limit m k : ℕ) (moves finals : List ℕ) (fits : Fits (transitions l
   second : At t (4 + length x) y
   second = at_right t 4 x y rest
 
-  start_is : reading First t (literal start_line) 0 ≡ given (record { values = []; next = 4 })
+  start_is : reading First t (literal start_line) 0 ≡ Ok (record { values = []; next = 4 })
   start_is =
       reading-is First t (literal start_line) 0 [] (fixed-literal start_line).fits (subst (At t 0) (sym (fixed-literal start_line).text) (at_left t 0 start_line (x ++ y) (at_self t)))
-      ∙ ap (λ (l : List ℕ). given (record { values = []; next = 0 + length l })) (fixed-literal start_line).text
+      ∙ ap (λ (l : List ℕ). Ok (record { values = []; next = 0 + length l })) (fixed-literal start_line).text
 
   begins : (n : ℕ) → Fits (accepting_states limit n) finals → 0 < n → (z : List ℕ) × (printed (accepting_states limit n) finals ≡ 91 ∷ z)
   unfolding accepting_states
@@ -139,14 +140,14 @@ module _ (limit m k : ℕ) (moves finals : List ℕ) (fits : Fits (transitions l
   stops-moves : stands t 115 (4 + length x) ≡ false
   stops-moves = let b = begins k fit final in stands-other t b.0 115 91 (4 + length x) (subst (At t (4 + length x)) b.1 second) (λ e. omega arith)
 
-  moves-is : repeated First t 115 (transitions limit) 4 ≡ given (record { values = moves; next = 4 + length x })
+  moves-is : repeated First t 115 (transitions limit) 4 ≡ Ok (record { values = moves; next = 4 + length x })
   unfolding transitions
   moves-is = chained-is (λ i vs. transition limit i (of_start i vs)) 115 (moves-begin limit) t 4 First m moves fits (at_left t 4 x y rest) stops-moves
 
   end : 4 + length x + length y ≡ length t
   end = omega (arith, length-append start_line (x ++ y), length-append x y)
 
-  accepting-is : repeated First t 91 (accepting_states limit) (4 + length x) ≡ given (record { values = finals; next = 4 + length x + length y })
+  accepting-is : repeated First t 91 (accepting_states limit) (4 + length x) ≡ Ok (record { values = finals; next = 4 + length x + length y })
   unfolding accepting_states
   accepting-is = chained-is (λ i vs. accepting_state limit (after_last i vs)) 91 (accepting-begin limit) t (4 + length x) First k finals fit second (stands-past t 91 (4 + length x + length y) (omega (arith, end)))
 
@@ -155,7 +156,7 @@ module _ (limit m k : ℕ) (moves finals : List ℕ) (fits : Fits (transitions l
       let e = counts limit m moves fits in
       (λ z. omega arith, ap (λ (n : ℕ). n % of_start n moves) e ∙ even)
 
-  pub numbers-is : numbers_below limit (start_line ++ printed (transitions limit m) moves ++ printed (accepting_states limit k) finals) ≡ given (record { moves = moves; finals = finals })
+  pub numbers-is : numbers_below limit (start_line ++ printed (transitions limit m) moves ++ printed (accepting_states limit k) finals) ≡ Ok (record { moves = moves; finals = finals })
   unfolding numbers_below
   numbers-is =
       ap (started limit t) start_is

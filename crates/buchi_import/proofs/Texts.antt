@@ -1,4 +1,6 @@
 -- The text of an automaton is read, to that automaton; and what is read is an automaton whose text was read. Assumes nothing.
+use Rattle.std.specs.Prelude.{Result, Ok, Err}
+use Rattle.slices.specs.declared.Refusal.{Refusal}
 use mathlib.Core.Path.{◌≡◌, refl, ap, sym, ◌∙◌}
 use mathlib.Core.Bool.{Bool, true, cond, ◌||◌, true≢false}
 use mathlib.Core.List.{List, [], ◌∷◌, ◌++◌}
@@ -7,7 +9,6 @@ use native.Mathlib.Omega.{arith}
 use native.Mathlib.Nat.{one-mul, mul-le-mul_right, mod-lt, div-lt_iff_lt-mul, mul-mod_left, mul-div_cancel}
 use lib.ListN.{length, get_or}
 use borrow.Author.Tests.{eq-eqb}
-use Rattle.slices.specs.Refusals.{Result, given, refused}
 use Rattle.slices.proofs.Refusals.{never-given, given-was}
 use Rattle.slices.specs.Tables.{rows, sum}
 use Rattle.slices.proofs.Tables.{rows_same, row-end, sum-even, get_d_rows}
@@ -33,18 +34,18 @@ same_text D E h = λ i. start_line ++ (first ∙ (λ j. rows (h.states j) (λ q.
     last = rows_same D.states _ _ (λ p k. ap (λ (b : Bool). cond b (accepting_line p) []) (h.accepting p k))
 
 -- the second reading finds what the first found
-pub again-was : (t : List ℕ) (w : Numbers) → numbers_of t ≡ given w → (numbers_below 1000 t ≡ given w) × (numbers_below (states_in w.moves) t ≡ given w)
+pub again-was : (t : List ℕ) (w : Numbers) → numbers_of t ≡ Ok w → (numbers_below 1000 t ≡ Ok w) × (numbers_below (states_in w.moves) t ≡ Ok w)
 unfolding numbers_of
 again-was t w e = by (numbers_below 1000 t) refl e
   where
-    by : (x : Result Numbers) → numbers_below 1000 t ≡ x → again t x ≡ given w → (x ≡ given w) × (numbers_below (states_in w.moves) t ≡ given w)
-    by (refused r) d k = absurd (never-given k)
-    by (given v) d k =
+    by : (x : Result Numbers Refusal) → numbers_below 1000 t ≡ x → again t x ≡ Ok w → (x ≡ Ok w) × (numbers_below (states_in w.moves) t ≡ Ok w)
+    by (Err r) d k = absurd (never-given k)
+    by (Ok v) d k =
         let f = sym d ∙ wider (states_in v.moves) t w k in
         (f, ap (λ (u : Numbers). numbers_below (states_in u.moves) t) (sym (given-was f)) ∙ k)
 
 -- numbers that were read below their own state count are a complete automaton's, and the text is its text
-module _ (t : List ℕ) (w : Numbers) (e : numbers_of t ≡ given w) where
+module _ (t : List ℕ) (w : Numbers) (e : numbers_of t ≡ Ok w) where
   was : Was (states_in w.moves) t w
   was = numbers-was (states_in w.moves) t w (again-was t w e).1
 
@@ -144,12 +145,12 @@ module _ (D : Dba) (d : Drawable D) where
     accepting = λ p h. sym (chosen-in n D.accepting p h);
   }
 
-  found : numbers_of t ≡ given w
+  found : numbers_of t ≡ Ok w
   unfolding numbers_of
   found = ap (again t) (wider n t w first) ∙ (ap (λ (k : ℕ). numbers_below k t) (sym states-same) ∙ first)
     where
-      first : numbers_below n t ≡ given w
+      first : numbers_below n t ≡ Ok w
       first = numbers-is n (n * s) (length finals) moves finals moves-fits accepting-fits (omega (arith, enough, d.some_letters)) (ap (λ (k : ℕ). n * s % k) of-start ∙ mul-mod_left n s) some-accepting
 
-  pub text-read : (w : Numbers) × (numbers_of (buchi_text D) ≡ given w) × SameDba D (automaton_of w)
+  pub text-read : (w : Numbers) × (numbers_of (buchi_text D) ≡ Ok w) × SameDba D (automaton_of w)
   text-read = (w, ap numbers_of (same_text D (automaton_of w) same ∙ read-text t w found) ∙ found, same)

@@ -1,11 +1,15 @@
 -- Reading the text of an automaton, for any bytes. A text is read from left to right, so that what is refused first is
 -- refused at the smallest place: once with no limit on targets and accepting states, which finds how many states there
 -- are, and then with that limit. Assumes nothing.
+use Rattle.slices.specs.declared.Reason.{Reason}
+use Rattle.slices.specs.declared.Reason.TheVariants.{LetterCount, StateCount, NextState, OffLayout, OutOfTurn}
+use Rattle.slices.specs.declared.Reason.TheVariants.{NoneAccepting, TooLittleRoom}
+use Rattle.slices.specs.declared.Refusal.{Refusal}
 use Rattle.std.specs.Prelude.{Bool, false, cond, not, ◌||◌, ◌&&◌, List, [], ◌∷◌, ℕ, ◌+◌, ◌*◌, ◌-◌, ◌/◌, ◌%◌, eqb, ltb}
-use Rattle.std.specs.Prelude.{length, get_or}
+use Rattle.std.specs.Prelude.{length, get_or, Result, Ok, Err}
 use Prim.Native.Char.{code}
 use Rattle.slices.specs.declared.Part.TheVariants.{First, Out}
-use Rattle.slices.specs.Refusals.{Fault, ◌then◌, when, Result, given, refused, fault_in}
+use Rattle.slices.specs.Refusals.{Fault, ◌then◌, when, fault_in}
 use Rattle.slices.specs.Texts.{bytes}
 use Rattle.fdfa.specs.Buchi.{Dba, from_buchi}
 use Rattle.fdfa.specs.Inclusion.{count_below}
@@ -16,10 +20,10 @@ use Rattle.format.specs.Rows.{due, below}
 use Rattle.format.specs.Lines.{labelled, repeated, closing}
 use Rattle.buchi_import.specs.Text.{start_line}
 
--- The number i in its turn, which runs below a limit: another is 12, and the limit itself, where it is due, has a
--- refusal of its own.
-abbrev pub turn : ℕ → ℕ → ℕ → ℕ → Column
-turn limit number i v = cond (eqb i limit && eqb v limit) (record { low = 0; limit = 0; number = number }) (due i)
+-- The number i in its turn, which runs below a limit: another is out of turn, and the limit itself, where it is due,
+-- has a reason of its own.
+abbrev pub turn : ℕ → Reason → ℕ → ℕ → Column
+turn limit reason i v = cond (eqb i limit && eqb v limit) (record { low = 0; limit = 0; reason = reason }) (due i)
 
 -- What is due after m transitions, c of them of state 0, where the letter a stands. Where all are of state 0: its next
 -- one, m, or the first one of state 1. Else the one that comes in its turn, c to each state.
@@ -31,14 +35,15 @@ due_state_of m c a = cond (eqb c m) (cond (eqb a m) 0 1) (m / c)
 
 -- One transition, such as "s1,[0]->[2]": its letter, its state, and its target, which is below a limit.
 abbrev pub target : ℕ → Format
-target limit = seq (labelled (bytes "->[") (λ r. below limit 5) (code "]")) (λ vs. literal (bytes "\n"))
+target limit = seq (labelled (bytes "->[") (λ r. below limit NextState) (code "]")) (λ vs. literal (bytes "\n"))
 
 abbrev pub from_state : ℕ → ℕ → ℕ → ℕ → Format
-from_state limit m c a = seq (labelled (bytes "[") (turn 16 3 (due_state_of m c a)) (code "]")) (λ vs. target limit)
+from_state limit m c a =
+    seq (labelled (bytes "[") (turn 16 StateCount (due_state_of m c a)) (code "]")) (λ vs. target limit)
 
 unfoldable pub transition : ℕ → ℕ → ℕ → Format
 transition limit m c =
-    seq (labelled (bytes "s") (λ a. turn 32 2 (due_letter_of m c a) a) (code ","))
+    seq (labelled (bytes "s") (λ a. turn 32 LetterCount (due_letter_of m c a) a) (code ","))
     (λ vs. from_state limit m c (get_or vs 0 0))
 
 -- Of m transitions with the numbers vs, three each, those of state 0.
@@ -48,9 +53,10 @@ of_start m vs = count_below m (λ i. eqb (get_or vs (3 * i + 1) 0) 0)
 unfoldable pub transitions : ℕ → ℕ → Format
 transitions limit m = chained m (λ i vs. transition limit i (of_start i vs))
 
--- An accepting state, such as "[2]": above the one before, else 12, and below a limit, else 5.
+-- An accepting state, such as "[2]": above the one before, else it is out of turn, and below a limit, else it is no
+-- next state.
 abbrev pub rising : ℕ → ℕ → ℕ → Column
-rising low limit v = record { low = low; limit = limit; number = cond (ltb v low) 12 5 }
+rising low limit v = record { low = low; limit = limit; reason = cond (ltb v low) OutOfTurn NextState }
 
 unfoldable pub accepting_state : ℕ → ℕ → Format
 accepting_state limit low = seq (labelled (bytes "[") (rising low limit) (code "]")) (λ vs. literal (bytes "\n"))
@@ -76,37 +82,37 @@ letters_in moves = of_start (move_count moves) moves
 abbrev pub states_in : List ℕ → ℕ
 states_in moves = move_count moves / letters_in moves
 
--- The accepting states are the last lines; a text that has none is 13.
-abbrev pub ended : List ℕ → List ℕ → Result Found → Result Numbers
-ended t moves x = closing First t 13 (λ finals. record { moves = moves; finals = finals }) x
+-- The accepting states are the last lines; a text that has none is refused for it.
+abbrev pub ended : List ℕ → List ℕ → Result Found Refusal → Result Numbers Refusal
+ended t moves x = closing First t NoneAccepting (λ finals. record { moves = moves; finals = finals }) x
 
 -- The transitions are as many for each state, and there are some.
 abbrev pub whole : List ℕ → Bool
 whole moves = not (eqb (move_count moves) 0) && eqb (move_count moves % letters_in moves) 0
 
--- After the transitions, the accepting states; what stands where a state still lacks letters is 11.
-abbrev pub moved : ℕ → List ℕ → Result Found → Result Numbers
-moved limit t (refused r) = refused r
-moved limit t (given w) =
+-- After the transitions, the accepting states; what stands where a state still lacks letters is off the layout.
+abbrev pub moved : ℕ → List ℕ → Result Found Refusal → Result Numbers Refusal
+moved limit t (Err r) = Err r
+moved limit t (Ok w) =
     cond (whole w.values) (ended t w.values (repeated First t (code "[") (accepting_states limit) w.next))
-    (refused_at 11 First w.next)
+    (refused_at OffLayout First w.next)
 
 -- After the line of the start, the transitions.
-abbrev pub started : ℕ → List ℕ → Result Found → Result Numbers
-started limit t (refused r) = refused r
-started limit t (given w) = moved limit t (repeated First t (code "s") (transitions limit) w.next)
+abbrev pub started : ℕ → List ℕ → Result Found Refusal → Result Numbers Refusal
+started limit t (Err r) = Err r
+started limit t (Ok w) = moved limit t (repeated First t (code "s") (transitions limit) w.next)
 
 -- The whole text, with a limit on the states that transitions lead to and on accepting ones.
-unfoldable pub numbers_below : ℕ → List ℕ → Result Numbers
+unfoldable pub numbers_below : ℕ → List ℕ → Result Numbers Refusal
 numbers_below limit t = started limit t (reading First t (literal start_line) 0)
 
 -- A number has at most three digits, so that at first no state is refused; then those that are not below n are, the
 -- first of them.
-abbrev pub again : List ℕ → Result Numbers → Result Numbers
-again t (given w) = numbers_below (states_in w.moves) t
-again t (refused r) = refused r
+abbrev pub again : List ℕ → Result Numbers Refusal → Result Numbers Refusal
+again t (Ok w) = numbers_below (states_in w.moves) t
+again t (Err r) = Err r
 
-unfoldable pub numbers_of : List ℕ → Result Numbers
+unfoldable pub numbers_of : List ℕ → Result Numbers Refusal
 numbers_of t = again t (numbers_below 1000 t)
 
 -- A state is among the accepting ones.
@@ -124,13 +130,13 @@ automaton_of w = record {
 }
 
 -- The packed sheet of its family.
-abbrev pub bytes_in : Result Numbers → List ℕ
-bytes_in (given w) = pack (from_buchi (automaton_of w))
-bytes_in (refused r) = []
+abbrev pub bytes_in : Result Numbers Refusal → List ℕ
+bytes_in (Ok w) = pack (from_buchi (automaton_of w))
+bytes_in (Err r) = []
 
--- The text's fault, then 21 where the out slice is too short.
-abbrev pub pack_fault : Result Numbers → ℕ → Fault
-pack_fault x room = fault_in x then when (ltb room (length (bytes_in x))) 21 Out (length (bytes_in x))
+-- The text's fault, then too little room where the out slice is too short.
+abbrev pub pack_fault : Result Numbers Refusal → ℕ → Fault
+pack_fault x room = fault_in x then when (ltb room (length (bytes_in x))) TooLittleRoom Out (length (bytes_in x))
 
 unfoldable pub bytes_of : List ℕ → List ℕ
 bytes_of t = bytes_in (numbers_of t)

@@ -8,7 +8,6 @@ ghost use Rattle.numbers.specs.Storing.{Stored};
 ghost use Rattle.buchi_import.specs.Steps.{automaton_in, Stocked};
 
 use numbers::put;
-use slices::{narrow, wide16};
 
 // How long it is.
 pub fn sheet_len(s: usize, n: usize) -> usize
@@ -47,7 +46,7 @@ fn next_pair(
     requires { Stocked s n targets.now finals.now × (q < n) × (p < 2 * n) × (a < s) }
     ensures { (result ≡ (from_buchi (automaton_in s n targets.now finals.now)).progress q p a) × (result < 256) }
 {
-    let r = wide16(targets[(p / 2 + q) % n * s + a]);
+    let r = usize::from(targets[(p / 2 + q) % n * s + a]);
     pair_number(n, q, r, flagged(finals, r, p % 2))
 }
 
@@ -65,16 +64,11 @@ fn put_progress(
     ensures { Stored out.old at (table (2 * n) s ((from_buchi
         (automaton_in s n targets.now finals.now)).progress q)) out.new result }
 {
-    let count = 2 * n * s;
     let mut w = at;
-    let mut i = 0;
-    while i < count {
-        w = put(
-            out,
-            w,
-            narrow(next_pair(targets, finals, s, n, q, i / s, i % s)),
-        );
-        i += 1;
+    for p in 0..2 * n {
+        for a in 0..s {
+            w = put(out, w, next_pair(targets, finals, s, n, q, p, a) as u8);
+        }
     }
     w
 }
@@ -85,10 +79,8 @@ fn put_flags(n: usize, out: &mut [u8], at: usize) -> usize
     ensures { Stored out.old at (tab (2 * n) (λ p. mark (pair_flag p))) out.new result }
 {
     let mut w = at;
-    let mut p = 0;
-    while p < 2 * n {
-        w = put(out, w, narrow(p % 2));
-        p += 1;
+    for pair in 0..2 * n {
+        w = put(out, w, (pair % 2) as u8);
     }
     w
 }
@@ -100,11 +92,9 @@ fn put_parts(targets: &[u16], finals: &[u8], s: usize, n: usize, out: &mut [u8],
         (automaton_in s n targets.now finals.now)))) out.new result }
 {
     let mut w = at;
-    let mut q = 0;
-    while q < n {
+    for q in 0..n {
         let e = put_progress(targets, finals, s, n, q, out, w);
         w = put_flags(n, out, e);
-        q += 1;
     }
     w
 }
@@ -115,10 +105,8 @@ fn put_sizes(n: usize, out: &mut [u8], at: usize) -> usize
     ensures { Stored out.old at (tab n (λ q. 2 * n)) out.new result }
 {
     let mut w = at;
-    let mut q = 0;
-    while q < n {
-        w = put(out, w, narrow(2 * n));
-        q += 1;
+    for _ in 0..n {
+        w = put(out, w, (2 * n) as u8);
     }
     w
 }
@@ -130,10 +118,8 @@ fn put_leading(targets: &[u16], count: usize, out: &mut [u8], at: usize) -> usiz
     ensures { Stored out.old at (tab count (λ i. get_or targets.now i 0)) out.new result }
 {
     let mut w = at;
-    let mut i = 0;
-    while i < count {
-        w = put(out, w, narrow(wide16(targets[i])));
-        i += 1;
+    for &r in &targets[..count] {
+        w = put(out, w, r as u8);
     }
     w
 }
@@ -143,8 +129,8 @@ pub fn put_sheet(targets: &[u16], finals: &[u8], s: usize, n: usize, out: &mut [
     requires { Stocked s n targets.now finals.now }
     ensures { Stored out.old 0 (pack (from_buchi (automaton_in s n targets.now finals.now))) out.new result }
 {
-    let a = put(out, 0, narrow(s));
-    let b = put(out, a, narrow(n));
+    let a = put(out, 0, s as u8);
+    let b = put(out, a, n as u8);
     let c = put_sizes(n, out, b);
     let d = put_leading(targets, n * s, out, c);
     put_parts(targets, finals, s, n, out, d)

@@ -9,18 +9,19 @@ ghost use Rattle.buchi_import.specs.Reading.{accepting_state};
 ghost use Rattle.buchi_import.specs.Steps.{move_says};
 
 use crate::{LETTERS, Move, STATES};
-use format::{Cell, Column, Step, peek, read_labelled, read_literal};
-use slices::Part;
+use format::{Column, peek, read_labelled, read_literal};
+use numbers::Number;
+use slices::{Part, Reason, Refusal};
 
 // The number that is due in its turn, which runs below a limit; v is the one that stands there.
-fn turn(limit: usize, number: u8, due: usize, v: usize) -> Column
+fn turn(limit: usize, reason: Reason, due: usize, v: usize) -> Column
     requires { due ≤ 1000 }
-    ensures { result ≡ turn limit number due v }
+    ensures { result ≡ turn limit reason due v }
 {
     let turn = Column {
         low: due,
         limit: due + 1,
-        number: 12,
+        reason: Reason::OutOfTurn,
     };
     if due != limit {
         return turn;
@@ -31,7 +32,7 @@ fn turn(limit: usize, number: u8, due: usize, v: usize) -> Column
     Column {
         low: 0,
         limit: 0,
-        number,
+        reason,
     }
 }
 
@@ -54,71 +55,66 @@ fn due_state(m: usize, c: usize, a: usize) -> usize
     if c != m {
         return m / c;
     }
-    if a == m { 0 } else { 1 }
+    usize::from(a != m)
 }
 
 // A state in brackets after a word that ends with the first of them, at the end of a line.
-fn read_last(text: &[u8], at: usize, word: &[u8], column: Column) -> Cell
+fn read_last(text: &[u8], at: usize, word: &[u8], column: Column) -> Result<Number, Refusal>
     requires { at ≤ length text.now }
     ensures { cell_says result ≡ reading First text.now
         (seq (labelled word.now (λ v. column) 93) (λ vs. literal (10 ∷ []))) at }
 {
-    let state = read_labelled(text, at, word, column, 93, Part::First);
-    match state {
-        Cell::Refused(r) => Cell::Refused(r),
-        Cell::Read(v, e) => {
-            let step = read_literal(text, e, b"\n", Part::First);
-            match step {
-                Step::Refused(r) => Cell::Refused(r),
-                Step::Next(p) => Cell::Read(v, p),
-            }
-        }
-    }
+    let state = read_labelled(text, at, word, column, 93, Part::First)?;
+    let next = read_literal(text, state.next, b"\n", Part::First)?;
+    Ok(Number { next, ..state })
 }
 
 // Where a transition leads: a state below a limit.
-fn read_target(text: &[u8], at: usize, a: usize, q: usize, limit: usize) -> Move
+fn read_target(text: &[u8], at: usize, a: usize, q: usize, limit: usize) -> Result<Move, Refusal>
     requires { at ≤ length text.now }
     ensures { move_says result ≡ after (a ∷ q ∷ []) (reading First text.now (target limit) at) }
 {
     let below = Column {
         low: 0,
         limit,
-        number: 5,
+        reason: Reason::NextState,
     };
-    let target = read_last(text, at, b"->[", below);
-    match target {
-        Cell::Refused(r) => Move::Refused(r),
-        Cell::Read(r, e) => Move::Read(a, q, r, e),
-    }
+    let target = read_last(text, at, b"->[", below)?;
+    Ok(Move {
+        letter: a,
+        source: q,
+        target: target.value,
+        next: target.next,
+    })
 }
 
 // The state of a transition, after its letter a, and where it leads.
-fn read_source(text: &[u8], at: usize, a: usize, m: usize, c: usize, limit: usize) -> Move
+fn read_source(
+    text: &[u8],
+    at: usize,
+    a: usize,
+    m: usize,
+    c: usize,
+    limit: usize,
+) -> Result<Move, Refusal>
     requires { (at ≤ length text.now) × (m ≤ 16 * c) × (c ≤ 32) }
     ensures { move_says result ≡ after (a ∷ []) (reading First text.now (from_state limit m c a) at) }
 {
     let v = peek(text, at + 1, Part::First);
-    let column = turn(STATES, 3, due_state(m, c, a), v);
-    let source = read_labelled(text, at, b"[", column, 93, Part::First);
-    match source {
-        Cell::Refused(r) => Move::Refused(r),
-        Cell::Read(q, e) => read_target(text, e, a, q, limit),
-    }
+    let column = turn(STATES, Reason::StateCount, due_state(m, c, a), v);
+    let source = read_labelled(text, at, b"[", column, 93, Part::First)?;
+    read_target(text, source.next, a, source.value, limit)
 }
 
 // A transition, after m, of which c are of state 0.
-pub fn read_move(text: &[u8], at: usize, m: usize, c: usize, limit: usize) -> Move
+pub fn read_move(text: &[u8], at: usize, m: usize, c: usize, limit: usize) -> Result<Move, Refusal>
     requires { (at ≤ length text.now) × (m ≤ 16 * c) × (c ≤ 32) }
     ensures { move_says result ≡ reading First text.now (transition limit m c) at }
 {
     let v = peek(text, at + 1, Part::First);
-    let column = turn(LETTERS, 2, due_letter(m, c, v), v);
-    let letter = read_labelled(text, at, b"s", column, 44, Part::First);
-    match letter {
-        Cell::Refused(r) => Move::Refused(r),
-        Cell::Read(a, e) => read_source(text, e, a, m, c, limit),
-    }
+    let column = turn(LETTERS, Reason::LetterCount, due_letter(m, c, v), v);
+    let letter = read_labelled(text, at, b"s", column, 44, Part::First)?;
+    read_source(text, letter.next, letter.value, m, c, limit)
 }
 
 // The column of an accepting state where v stands: from `low` on, and below a limit.
@@ -129,18 +125,18 @@ fn rising(low: usize, limit: usize, v: usize) -> Column
         return Column {
             low,
             limit,
-            number: 12,
+            reason: Reason::OutOfTurn,
         };
     }
     Column {
         low,
         limit,
-        number: 5,
+        reason: Reason::NextState,
     }
 }
 
 // An accepting state, from `low` on.
-pub fn read_state(text: &[u8], at: usize, low: usize, limit: usize) -> Cell
+pub fn read_state(text: &[u8], at: usize, low: usize, limit: usize) -> Result<Number, Refusal>
     requires { at ≤ length text.now }
     ensures { cell_says result ≡ reading First text.now (accepting_state limit low) at }
 {

@@ -3,25 +3,22 @@
 
 ghost use Rattle.std.specs.Prelude.{◌≡◌};
 ghost use Rattle.answers.specs.Layout.{numbers_of, padded};
-ghost use Rattle.carts.specs.Loads.{loading_says};
 ghost use Rattle.c_cart.specs.Numbers.{load_numbers_of, CartTold};
 
-use answers::{SHORT, part_number, tell};
+use answers::{SHORT, refusal_numbers, tell};
 use carts::Loading;
+use slices::Refusal;
 
 // The bytes of the answer.
 const ANSWER: usize = 24;
 
-fn load_numbers(answer: Loading) -> [u64; 3]
-    ensures { result ≡ padded 3 (numbers_of load_numbers_of (loading_says answer)) }
+fn load_numbers(loading: Result<Loading, Refusal>) -> [u64; 3]
+    ensures { result ≡ padded 3 (numbers_of load_numbers_of loading) }
 {
-    match answer {
-        Loading::Loaded(n) => [0, 1, n as u64],
-        Loading::Rejected(i) => [0, 0, i as u64],
-        Loading::Refused(r) => {
-            let part = r.part;
-            [r.number as u64, part_number(part), r.place as u64]
-        }
+    match loading {
+        Ok(Loading::Loaded(n)) => [0, 1, n as u64],
+        Ok(Loading::Rejected(i)) => [0, 0, i as u64],
+        Err(r) => refusal_numbers(r),
     }
 }
 

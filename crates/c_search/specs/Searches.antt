@@ -1,24 +1,29 @@
 -- What the searches for C say and write, for any bytes. Assumes nothing.
-use Rattle.std.specs.Prelude.{◌≡◌, Bool, true, false, cond, List, [], ◌∷◌, ℕ, ltb, length, replicate}
+use Rattle.slices.specs.declared.Refusal.{Refusal}
+use Rattle.std.specs.Prelude.{◌≡◌, false, List, [], ◌∷◌, ℕ, ltb, length, replicate, Result}
 use Rattle.fdfa.specs.Inclusion as model
 use Rattle.fdfa.specs.Inclusion.{comparison, emptiness}
-use Rattle.slices.specs.Refusals.{Fault, Result, given, refused, unless}
+use Rattle.slices.specs.Refusals.{Fault, unless}
 use Rattle.slices.specs.Filling.{filled}
 use Rattle.packed.specs.Layout.{decode}
 use Rattle.lasso_search.specs.Lassos.{prefix_of, period_of}
+use Rattle.inclusion.specs.declared.Comparison.{Comparison}
 use Rattle.inclusion.specs.declared.Outcome.{Outcome}
-use Rattle.inclusion.specs.declared.Outcome.TheVariants.{Absent, Found, Refused}
-use Rattle.inclusion.specs.Outcomes.{Answer, answer_of}
+use Rattle.inclusion.specs.declared.Outcome.TheVariants.{Absent, Found}
+use Rattle.inclusion.specs.Outcomes.{answer_of}
 use Rattle.inclusion.specs.Calls.{Slices, lasso, call_fault, compare_cells, compare_start, empty_cells, empty_start}
 use Rattle.inclusion.specs.Calls.{DecidesInclusion, DecidesEmptiness}
 use Rattle.answers.specs.Layout.{numbers_of, unless_short, Told}
 
 -- Whether there is a lasso, R, its lengths, where the first sheet waits and ends, and where the second does.
-abbrev pub search_numbers_of : Answer → List ℕ
-search_numbers_of s =
-    let z = s.numbers in
-    cond s.none 0 1 ∷ z.reached ∷ z.prefix ∷ z.period
+abbrev pub comparison_numbers_of : ℕ → Comparison → List ℕ
+comparison_numbers_of found z =
+    found ∷ z.reached ∷ z.prefix ∷ z.period
     ∷ z.first.waits ∷ z.first.ends ∷ z.second.waits ∷ z.second.ends ∷ []
+
+abbrev pub search_numbers_of : Outcome → List ℕ
+search_numbers_of (Absent z) = comparison_numbers_of 0 z
+search_numbers_of (Found z) = comparison_numbers_of 1 z
 
 -- The slices that are lent to be written, beside the sheets.
 pub record SearchSlices : Type 0 where
@@ -30,17 +35,9 @@ pub record SearchSlices : Type 0 where
 abbrev pub searched : SearchSlices → Slices
 searched l = record { opening = l.prefix; period = l.period; work = l.work }
 
--- What a search says, where `start` is its refusal before the search and C its answer; and the outcome that says so.
-abbrev pub search_says : Fault → model.Comparison → SearchSlices → Result Answer
+-- What a search says, where `start` is its refusal before the search and C its answer.
+abbrev pub search_says : Fault → model.Comparison → SearchSlices → Result Outcome Refusal
 search_says start C l = unless (call_fault start C (searched l)) (answer_of C)
-
-abbrev pub outcome_of : Result Answer → Outcome
-outcome_of (given s) = outcome_given s.none s
-  where
-    outcome_given : Bool → Answer → Outcome
-    outcome_given true s = Absent s.numbers
-    outcome_given false s = Found s.numbers
-outcome_of (refused r) = Refused r
 
 -- What it returns and leaves in the lent slices, where it needs so many cells of work.
 pub record SearchTold (start : Fault) (C : model.Comparison) (cells : ℕ) (before after : SearchSlices) (r : ℕ)
@@ -64,7 +61,7 @@ pub record ComparedTold (b c : List ℕ) (before after : SearchSlices) (r : ℕ)
       SearchTold (compared_start b c before) (comparison (decode b) (decode c)) (compare_cells b c) before after r
   pub decides : ltb (length before.answer) 72 ≡ false
       → DecidesInclusion (decode b) (decode c) (lasso (searched after))
-      (outcome_of (search_says (compared_start b c before) (comparison (decode b) (decode c)) before))
+      (search_says (compared_start b c before) (comparison (decode b) (decode c)) before)
 
 -- The test of emptiness.
 abbrev pub emptied_start : List ℕ → SearchSlices → Fault
@@ -74,4 +71,4 @@ pub record EmptiedTold (b : List ℕ) (before after : SearchSlices) (r : ℕ) : 
   pub settles : SearchTold (emptied_start b before) (emptiness (decode b)) (empty_cells b) before after r
   pub decides : ltb (length before.answer) 72 ≡ false
       → DecidesEmptiness (decode b) (lasso (searched after))
-      (outcome_of (search_says (emptied_start b before) (emptiness (decode b)) before))
+      (search_says (emptied_start b before) (emptiness (decode b)) before)

@@ -2,57 +2,41 @@
 // call returns 0, and changes nothing, where the answer slice is too short; else 1.
 #![tactic(auto)]
 
-ghost use Rattle.std.specs.Prelude.{◌≡◌, [], ◌∷◌};
-ghost use Rattle.inclusion.specs.Outcomes.{outcome_says};
+ghost use Rattle.std.specs.Prelude.{◌≡◌, ◌∷◌};
 ghost use Rattle.answers.specs.Layout.{numbers_of, padded};
-ghost use Rattle.c_search.specs.Searches.{search_numbers_of, ComparedTold, EmptiedTold};
+ghost use Rattle.c_search.specs.Searches.{comparison_numbers_of, search_numbers_of, ComparedTold, EmptiedTold};
 
-use answers::{SHORT, part_number, tell};
+use answers::{SHORT, refusal_numbers, tell};
 use inclusion::{Comparison, Outcome};
+use slices::Refusal;
 
 // The bytes of both answers.
 const ANSWER: usize = 72;
 
 // The numbers of a search that was made; `found` is 0 or 1.
 fn given_numbers(found: u64, z: Comparison) -> [u64; 9]
-    ensures { result ≡ 0 ∷ found ∷ z.reached ∷ z.prefix ∷ z.period
-        ∷ z.first.waits ∷ z.first.ends ∷ z.second.waits ∷ z.second.ends ∷ [] }
+    ensures { result ≡ 0 ∷ comparison_numbers_of found z }
 {
-    let p = z.first;
-    let q = z.second;
     [
         0,
         found,
         z.reached as u64,
         z.prefix as u64,
         z.period as u64,
-        p.waits as u64,
-        p.ends as u64,
-        q.waits as u64,
-        q.ends as u64,
+        z.first.waits as u64,
+        z.first.ends as u64,
+        z.second.waits as u64,
+        z.second.ends as u64,
     ]
 }
 
-fn search_numbers(outcome: Outcome) -> [u64; 9]
-    ensures { result ≡ padded 9 (numbers_of search_numbers_of (outcome_says outcome)) }
+fn search_numbers(outcome: Result<Outcome, Refusal>) -> [u64; 9]
+    ensures { result ≡ padded 9 (numbers_of search_numbers_of outcome) }
 {
     match outcome {
-        Outcome::Absent(z) => given_numbers(0, z),
-        Outcome::Found(z) => given_numbers(1, z),
-        Outcome::Refused(r) => {
-            let part = r.part;
-            [
-                r.number as u64,
-                part_number(part),
-                r.place as u64,
-                0,
-                0,
-                0,
-                0,
-                0,
-                0,
-            ]
-        }
+        Ok(Outcome::Absent(z)) => given_numbers(0, z),
+        Ok(Outcome::Found(z)) => given_numbers(1, z),
+        Err(r) => refusal_numbers(r),
     }
 }
 

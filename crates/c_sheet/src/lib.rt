@@ -4,31 +4,28 @@
 
 ghost use Rattle.std.specs.Prelude.{◌≡◌, length};
 ghost use Rattle.slices.specs.declared.Part.TheVariants.{First};
-ghost use Rattle.packed.specs.Faults.{checked, says_of};
+ghost use Rattle.packed.specs.Faults.{checked};
 ghost use Rattle.boolean.specs.declared.Operation.TheVariants.{Both, Either};
 ghost use Rattle.boolean.specs.Operations.{complement_fault, complement_bytes};
 ghost use Rattle.boolean.specs.Operations.{product_fault, intersection_bytes, union_bytes};
 ghost use Rattle.answers.specs.Layout.{numbers_of, padded, Told, FillTold};
 ghost use Rattle.c_sheet.specs.Numbers.{size_numbers};
 
-use answers::{SHORT, fill_numbers, part_number, tell};
-use packed::Validity;
-use slices::Part;
+use answers::{SHORT, fill_numbers, refusal_numbers, tell};
+use packed::Sizes;
+use slices::{Part, Refusal};
 
 // The bytes of the answers.
 const CHECK: usize = 32;
 
 const FILL: usize = 24;
 
-fn check_numbers(validity: Validity) -> [u64; 4]
-    ensures { result ≡ padded 4 (numbers_of size_numbers (says_of validity)) }
+fn check_numbers(sizes: Result<Sizes, Refusal>) -> [u64; 4]
+    ensures { result ≡ padded 4 (numbers_of size_numbers sizes) }
 {
-    match validity {
-        Validity::Valid(z) => [0, z.letters as u64, z.states as u64, z.widest as u64],
-        Validity::Refused(r) => {
-            let part = r.part;
-            [r.number as u64, part_number(part), r.place as u64, 0]
-        }
+    match sizes {
+        Ok(z) => [0, z.letters as u64, z.states as u64, z.widest as u64],
+        Err(r) => refusal_numbers(r),
     }
 }
 
@@ -41,8 +38,8 @@ pub extern "C" fn fdfa_check(sheet: &[u8], answer: &mut [u8]) -> u32
     if answer.len() < CHECK {
         return SHORT;
     }
-    let validity = packed::check(sheet, Part::First);
-    let numbers = check_numbers(validity);
+    let sizes = packed::check(sheet, Part::First);
+    let numbers = check_numbers(sizes);
     tell(&numbers, answer)
 }
 

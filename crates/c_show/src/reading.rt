@@ -1,24 +1,21 @@
 // The show of a text, in two lent slices.
 ghost use Rattle.std.specs.Prelude.{◌≡◌};
 ghost use Rattle.slices.specs.declared.Part.TheVariants.{First};
-ghost use Rattle.lasso_text.specs.Reading.{words_of, lengths_say};
+ghost use Rattle.lasso_text.specs.Reading.{words_of};
 ghost use Rattle.answers.specs.Layout.{numbers_of, padded};
 ghost use Rattle.c_show.specs.Numbers.{lasso_numbers_of, LassoTold};
 
 use crate::ANSWER;
-use answers::{SHORT, part_number, tell};
+use answers::{SHORT, refusal_numbers, tell};
 use lasso_text::Lengths;
-use slices::Part;
+use slices::{Part, Refusal};
 
-fn lasso_numbers(lengths: Lengths) -> [u64; 3]
-    ensures { result ≡ padded 3 (numbers_of lasso_numbers_of (lengths_say lengths)) }
+fn lasso_numbers(answer: Result<Lengths, Refusal>) -> [u64; 3]
+    ensures { result ≡ padded 3 (numbers_of lasso_numbers_of answer) }
 {
-    match lengths {
-        Lengths::Filled(m, n) => [0, m as u64, n as u64],
-        Lengths::Refused(r) => {
-            let part = r.part;
-            [r.number as u64, part_number(part), r.place as u64]
-        }
+    match answer {
+        Ok(lengths) => [0, lengths.prefix as u64, lengths.period as u64],
+        Err(r) => refusal_numbers(r),
     }
 }
 

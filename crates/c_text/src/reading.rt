@@ -2,51 +2,45 @@
 ghost use Rattle.std.specs.Prelude.{◌≡◌};
 ghost use Rattle.slices.specs.declared.Part.TheVariants.{First};
 ghost use Rattle.numbers.specs.Numerals.{number_at_value};
-ghost use Rattle.notation.specs.Reading.{sheet_in, levelled_says};
+ghost use Rattle.notation.specs.Reading.{sheet_in};
 ghost use Rattle.answers.specs.Layout.{numbers_of, padded, Told};
-ghost use Rattle.c_text.specs.Numbers.{number_result, read_numbers, sheet_numbers_of, SheetTold};
+ghost use Rattle.c_text.specs.Numbers.{read_numbers, sheet_numbers_of, SheetTold};
 
 use crate::ANSWER;
-use answers::{SHORT, part_number, tell};
+use answers::{SHORT, refusal_numbers, tell};
 use notation::Levelled;
 use numbers::Number;
+use slices::Refusal;
 
-fn number_numbers(number: Number) -> [u64; 3]
-    ensures { result ≡ padded 3 (numbers_of read_numbers (number_result number)) }
+fn number_numbers(number: Result<Number, Refusal>) -> [u64; 3]
+    ensures { result ≡ padded 3 (numbers_of read_numbers number) }
 {
     match number {
-        Number::Good(value, next) => [0, value as u64, next as u64],
-        Number::Refused(r) => {
-            let part = r.part;
-            [r.number as u64, part_number(part), r.place as u64]
-        }
+        Ok(n) => [0, n.value as u64, n.next as u64],
+        Err(r) => refusal_numbers(r),
     }
 }
 
-fn sheet_numbers(levelled: Levelled) -> [u64; 3]
-    ensures { result ≡ padded 3 (numbers_of sheet_numbers_of (levelled_says levelled)) }
+fn sheet_numbers(sheet: Result<Levelled, Refusal>) -> [u64; 3]
+    ensures { result ≡ padded 3 (numbers_of sheet_numbers_of sheet) }
 {
-    match levelled {
-        Levelled::Filled(level, n) => [0, level as u64, n as u64],
-        Levelled::Refused(r) => {
-            let part = r.part;
-            [r.number as u64, part_number(part), r.place as u64]
-        }
+    match sheet {
+        Ok(s) => [0, s.level as u64, s.filled as u64],
+        Err(r) => refusal_numbers(r),
     }
 }
 
 // The number at a place of a text: its value, and the place after it.
 #[unsafe(no_mangle)]
 pub extern "C" fn fdfa_number_read(text: &[u8], place: usize, answer: &mut [u8]) -> u32
-    ensures { Told 3 (numbers_of read_numbers (number_result (number_at_value First text.now place)))
+    ensures { Told 3 (numbers_of read_numbers (number_at_value First text.now place))
         answer.old answer.new result }
 {
     if answer.len() < ANSWER {
         return SHORT;
     }
     let number = numbers::read_number(text, place);
-    let told = number_numbers(number);
-    tell(&told, answer)
+    tell(&number_numbers(number), answer)
 }
 
 // The sheet of a text: the packed sheet and, at level four, the seconds; its level, and the length of the packed sheet.
@@ -64,7 +58,6 @@ pub extern "C" fn fdfa_sheet_read(
     if answer.len() < ANSWER {
         return SHORT;
     }
-    let levelled = notation::read(text, out, seconds);
-    let told = sheet_numbers(levelled);
-    tell(&told, answer)
+    let sheet = notation::read(text, out, seconds);
+    tell(&sheet_numbers(sheet), answer)
 }

@@ -26,8 +26,7 @@ pub extern "C" fn fdfa_sheet_write(
         return SHORT;
     }
     let filled = notation::write(level, sheet, seconds, out);
-    let told = fill_numbers(filled);
-    tell(&told, answer)
+    tell(&fill_numbers(filled), answer)
 }
 
 // The packed sheet of an automaton's text.
@@ -40,6 +39,5 @@ pub extern "C" fn fdfa_import(text: &[u8], out: &mut [u8], answer: &mut [u8]) ->
         return SHORT;
     }
     let filled = buchi_import::import(text, out);
-    let told = fill_numbers(filled);
-    tell(&told, answer)
+    tell(&fill_numbers(filled), answer)
 }

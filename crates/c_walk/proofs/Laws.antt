@@ -1,5 +1,7 @@
 -- What the numbers of a cursor and of a pass come to: a part that is opening or loop is that word and any other has no letters, the rest
 -- that is told is the rest and lies where it does, and what a pass tells it is taken up from. Assumes nothing.
+use Rattle.slices.specs.declared.Reason.TheVariants.{EmptyLoop, CursorPastEnd}
+use Rattle.std.specs.Prelude.{Err}
 use mathlib.Core.Path.{◌≡◌, refl, ap}
 use mathlib.Core.Bool.{Bool, true, false, cond}
 use mathlib.Core.List.{List, [], ◌∷◌}
@@ -11,7 +13,7 @@ use native.Mathlib.Omega.{arith}
 use native.Mathlib.Nat.{add-zero}
 use borrow.Author.Tests.{ne_eqb, le-leb}
 use Rattle.slices.specs.declared.Part.TheVariants as part
-use Rattle.slices.specs.Refusals.{Fault, ◌then◌, when, refused}
+use Rattle.slices.specs.Refusals.{Fault, ◌then◌, when}
 use Rattle.fdfa.specs.Pass.{Pass, reached, unknown, start}
 use Rattle.cursor.specs.declared.Phase.{Phase}
 use Rattle.cursor.specs.declared.Phase.TheVariants.{Prefix, Period}
@@ -39,7 +41,7 @@ pub rest-told : (c : Cursor) (u v : List ℕ) → letters_told (rest_numbers_of 
 rest-told c u v = by_tests (eqb (length v) 0) (leb (length (named c u v)) c.at)
   where
     tests : Bool → Bool → Fault
-    tests b d = when b 8 part.Loop 0 then when d 24 part.Cursor c.at
+    tests b d = when b EmptyLoop part.Loop 0 then when d CursorPastEnd part.Cursor c.at
 
     rest : Bool → Bool → List ℕ
     rest b d = if_sound (tests b d) (drop c.at (named c u v)) []
@@ -61,10 +63,10 @@ cursor-again c = ap (λ (p : Phase). record { phase = p; at = c.at }) (phase-aga
     phase-again Prefix = refl
     phase-again Period = refl
 
--- A part that is neither: 24 once the loop has letters, and the empty rest at the opening's start.
+-- A part that is neither: its position is past the end once the loop has letters, and the empty rest at the opening's start.
 module _ (k at : ℕ) (u v : List ℕ) (opening : k ≡ 2 → ⊥) (loop : k ≡ 3 → ⊥) where
   pub other-steps : (length v ≡ 0 → ⊥)
-      → step_result (stepped (cursor_of_value k at) (prefix_for_value k u) v) ≡ refused (record { number = 24; part = part.Cursor; place = at })
+      → step_result (stepped (cursor_of_value k at) (prefix_for_value k u) v) ≡ Err (record { reason = CursorPastEnd; part = part.Cursor; place = at })
   other-steps some =
       let l : leb 0 at ≡ true = le-leb 0 at (omega arith) in
       rw (ne_eqb k 2 opening, ne_eqb k 3 loop, ne_eqb (length v) 0 some, l)
@@ -75,7 +77,7 @@ module _ (k at : ℕ) (u v : List ℕ) (opening : k ≡ 2 → ⊥) (loop : k ≡
       rw (ne_eqb k 2 opening, ne_eqb k 3 loop, l) (by_loop (eqb (length v) 0) _)
     where
       by_loop : (b : Bool) (there : List ℕ)
-          → if_sound (when b 8 part.Loop 0 then when true 24 part.Cursor at) there (2 ∷ 0 ∷ 0 ∷ []) ≡ 2 ∷ 0 ∷ 0 ∷ []
+          → if_sound (when b EmptyLoop part.Loop 0 then when true CursorPastEnd part.Cursor at) there (2 ∷ 0 ∷ 0 ∷ []) ≡ 2 ∷ 0 ∷ 0 ∷ []
       by_loop true there = refl
       by_loop false there = refl
 
@@ -87,7 +89,7 @@ pub rest-lies : (c : Cursor) (u v : List ℕ) (p q : ℕ × ℕ) → lies_told (
 rest-lies c u v p q = by_tests (eqb (length v) 0) (leb (length (named c u v)) c.at)
   where
     tests : Bool → Bool → Fault
-    tests b d = when b 8 part.Loop 0 then when d 24 part.Cursor c.at
+    tests b d = when b EmptyLoop part.Loop 0 then when d CursorPastEnd part.Cursor c.at
 
     there : (x : Phase) → lies_told (phase_number_of x ∷ c.at ∷ length (rest_of c u v) ∷ []) p q ≡ ((lies x p q).0, (lies x p q).1 + c.at)
     there Prefix = refl

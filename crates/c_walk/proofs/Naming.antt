@@ -1,4 +1,5 @@
 -- The cursor by numbers: which cursor two numbers name, and what the rest is by whether letters are left. Assumes nothing.
+use Rattle.slices.specs.declared.Reason.TheVariants.{EmptyLoop, CursorPastEnd}
 use mathlib.Core.Path.{◌≡◌, refl, ap, sym}
 use mathlib.Core.Bool.{Bool, true, false, cond}
 use mathlib.Core.List.{List, [], ◌∷◌}
@@ -30,7 +31,7 @@ no-letters k u e = ap (λ (t : Bool). cond t u []) (sym (ne_eqb k 2 e))
 -- A step is refused by two tests; letters are left exactly where neither is met.
 module _ (c : Cursor) (u v : List ℕ) where
   abbrev tests : Bool → Bool → Fault
-  tests b d = when b 8 part.Loop 0 then when d 24 part.Cursor c.at
+  tests b d = when b EmptyLoop part.Loop 0 then when d CursorPastEnd part.Cursor c.at
 
   module _ (there none : List ℕ) where
     without : (b d : Bool) → leb (length (named c u v)) c.at ≡ d → length (if_sound (tests b d) (drop c.at (named c u v)) []) ≡ 0

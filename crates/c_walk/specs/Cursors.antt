@@ -1,11 +1,13 @@
 -- The cursor by numbers: the number of its part, and the position. Assumes nothing.
-use Rattle.std.specs.Prelude.{cond, List, [], ◌∷◌, ℕ, eqb, length, take, drop}
+use Rattle.slices.specs.declared.Refusal.{Refusal}
+use Rattle.std.specs.Prelude.{cond, List, [], ◌∷◌, ℕ, eqb, length, take, drop, Result}
 use Rattle.slices.specs.declared.Part.TheVariants.{Opening, Loop}
-use Rattle.slices.specs.Refusals.{Result, given, refused}
+use Rattle.slices.specs.Refusals.{mapped}
 use Rattle.cursor.specs.declared.Phase.{Phase}
 use Rattle.cursor.specs.declared.Phase.TheVariants.{Prefix, Period}
 use Rattle.cursor.specs.declared.Cursor.{Cursor}
-use Rattle.cursor.specs.Walking.{Stepped, moved, stays, step_fault, if_sound, rest_of}
+use Rattle.cursor.specs.declared.Step.{Step}
+use Rattle.cursor.specs.Walking.{step_fault, if_sound, rest_of}
 use Rattle.answers.specs.Layout.{part_number_of}
 
 -- The cursor that two numbers name, and the prefix as it sees it: a part that is neither opening nor loop has no
@@ -28,9 +30,8 @@ pub record Moved : Type 0 where
   pub letter : ℕ
   pub next : Cursor
 
-abbrev pub step_result : Stepped → Result Moved
-step_result (moved letter next) = given (record { letter = letter; next = next })
-step_result (stays r c) = refused r
+abbrev pub step_result : Step → Result Moved Refusal
+step_result s = mapped (λ letter. record { letter = letter; next = s.cursor }) s.letter
 
 abbrev pub moved_numbers : Moved → List ℕ
 moved_numbers m = m.letter ∷ cursor_numbers_of m.next

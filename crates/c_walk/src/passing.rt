@@ -5,8 +5,9 @@ ghost use Rattle.prefix_pass.specs.Parts.{pass_says, passed_of, passed_says};
 ghost use Rattle.answers.specs.Layout.{numbers_of, padded, Told};
 ghost use Rattle.c_walk.specs.Passes.{held_of, pass_numbers};
 
-use answers::{SHORT, part_number, tell};
-use prefix_pass::{Held, Passed};
+use answers::{SHORT, refusal_numbers, tell};
+use prefix_pass::Held;
+use slices::Refusal;
 
 // The bytes of both answers.
 const PASS: usize = 32;
@@ -32,15 +33,12 @@ fn held_numbers(held: Held) -> [u64; 4]
     }
 }
 
-fn passed_numbers(passed: Passed) -> [u64; 4]
+fn passed_numbers(passed: Result<Held, Refusal>) -> [u64; 4]
     ensures { result ≡ padded 4 (numbers_of pass_numbers (passed_says passed)) }
 {
     match passed {
-        Passed::Holds(held) => held_numbers(held),
-        Passed::Refused(r) => {
-            let part = r.part;
-            [r.number as u64, part_number(part), r.place as u64, 0]
-        }
+        Ok(held) => held_numbers(held),
+        Err(r) => refusal_numbers(r),
     }
 }
 

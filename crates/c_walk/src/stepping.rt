@@ -1,11 +1,11 @@
 // The cursor: start, step, rest.
 ghost use Rattle.std.specs.Prelude.{◌≡◌, List, ◌∷◌, ℕ, length};
-ghost use Rattle.cursor.specs.Walking.{start_of, stepped, says_of, rest_of};
+ghost use Rattle.cursor.specs.Walking.{start_of, stepped, rest_of};
 ghost use Rattle.answers.specs.Layout.{numbers_of, padded, Told};
 ghost use Rattle.c_walk.specs.Cursors.{cursor_of_value, prefix_for_value, phase_number_of, cursor_numbers_of};
 ghost use Rattle.c_walk.specs.Cursors.{step_result, moved_numbers, rest_numbers_of};
 
-use answers::{SHORT, part_number, tell};
+use answers::{SHORT, refusal_numbers, tell};
 use cursor::{Cursor, Phase, Step};
 
 // The bytes of the answers.
@@ -57,22 +57,16 @@ fn phase_number(phase: Phase) -> u64
 fn cursor_numbers(c: Cursor) -> [u64; 3]
     ensures { result ≡ padded 3 (0 ∷ cursor_numbers_of c) }
 {
-    let phase = c.phase;
-    [0, phase_number(phase), c.at as u64]
+    [0, phase_number(c.phase), c.at as u64]
 }
 
 fn step_numbers(step: Step) -> [u64; 4]
-    ensures { result ≡ padded 4 (numbers_of moved_numbers (step_result (says_of step))) }
+    ensures { result ≡ padded 4 (numbers_of moved_numbers (step_result step)) }
 {
-    match step {
-        Step::Passed(letter, c) => {
-            let phase = c.phase;
-            [0, letter as u64, phase_number(phase), c.at as u64]
-        }
-        Step::Refused(r, _) => {
-            let part = r.part;
-            [r.number as u64, part_number(part), r.place as u64, 0]
-        }
+    let c = step.cursor;
+    match step.letter {
+        Ok(letter) => [0, u64::from(letter), phase_number(c.phase), c.at as u64],
+        Err(r) => refusal_numbers(r),
     }
 }
 
@@ -83,8 +77,7 @@ fn rest_numbers(c: Cursor, n: usize) -> [u64; 4]
     if n == 0 {
         return [0, OPENING, 0, 0];
     }
-    let phase = c.phase;
-    [0, phase_number(phase), c.at as u64, n as u64]
+    [0, phase_number(c.phase), c.at as u64, n as u64]
 }
 
 fn rest_length<'a>(c: Cursor, prefix: &'a [u8], period: &'a [u8]) -> usize

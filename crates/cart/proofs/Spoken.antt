@@ -1,26 +1,22 @@
 -- What is said on standard error, out of the texts that it is stored by, and what is kept of it. Assumes nothing.
-use mathlib.Core.Path.{◌≡◌, refl, ap, sym, ◌∙◌}
-use mathlib.Core.Bool.{Bool, true, false, cond, true≢false}
+use mathlib.Core.Path.{◌≡◌, ap, sym, ◌∙◌}
+use mathlib.Core.Bool.{Bool, cond}
 use mathlib.Core.List.{List, []}
 use Prim.Native.Nat.{ℕ, ◌≤◌, ◌<◌}
 use native.Mathlib.Omega.{arith}
 use lib.ListN.{length}
 use borrow.Author.Tests.{lt-ltb, le-ltb}
 use Rattle.slices.specs.declared.Refusal.{Refusal}
-use Rattle.slices.specs.Refusals.{fault}
 use Rattle.slices.specs.Texts.{bytes}
-use Rattle.slices.proofs.Refusals.{faulty}
 use Rattle.numbers.specs.Storing.{Stored}
 use Rattle.numbers.proofs.Stores.{stored-then}
 use Rattle.sheet_forms.specs.declared.Form.{Form}
 use Rattle.sheet_forms.specs.Forms.{form_of, is_text_of}
 use Rattle.console.specs.Printed.{Shows}
 use Rattle.console.proofs.Printed.{shows-as, stored-shows}
-use Rattle.wording.specs.Words.{File, refusal_words_of}
-use Rattle.cart_files.specs.declared.Kept.{Kept}
-use Rattle.cart_files.specs.declared.Kept.TheVariants.{Nothing}
+use Rattle.wording.specs.Words.{refusal_words_of}
 use Rattle.cart_files.specs.declared.Scene.{Scene}
-use Rattle.cart.specs.Said.{sheet_file, show_file, no_file, sheet_words, show_said, text_words, in_scene, opening_lines_of, unknown_words, rejected_words, one_words, is_new_of, refusal_in, Says}
+use Rattle.cart.specs.Said.{sheet_file, show_file, no_file, sheet_words, show_said, in_scene, opening_lines_of, unknown_words, rejected_words, one_words}
 
 pub rejected-said : {old o₁ o₂ o₃ new : List ℕ} {p₁ p₂ p₃ r : ℕ} (name one : List ℕ) → length name ≤ 4096 → length one ≤ 4096 → 8448 ≤ length old → Stored old 0 name o₁ p₁
     → Stored o₁ p₁ (bytes ": rejected by ") o₂ p₂ → Stored o₂ p₂ one o₃ p₃ → Stored o₃ p₃ (bytes "\n") new r → Shows (rejected_words name one) old new r
@@ -46,21 +42,3 @@ module _ (x : Scene) where
 pub unknown-said : {old new : List ℕ} {n m : ℕ} {q : Refusal} (name : List ℕ) (x : Scene) (r : Refusal) → m ≡ opening_lines_of x → q ≡ in_scene x r
     → Shows (show_said (show_file name []) m q) old new n → Shows (unknown_words name x r) old new n
 unknown-said name x r d e s = shows-as (λ i. show_said (show_file name []) (d i) (e i)) s
-
--- what is kept
-module _ (f : File) (before after : Kept) (n : ℕ) (old : List ℕ) where
-  pub says_same : n ≤ length old → is_new_of before after ≡ false → Says f before after n old old n
-  says_same h e = record { within = h; same = λ d. (refl, refl); fresh = λ q d g. absurd (true≢false (sym d ∙ e)) }
-
-  pub says_nothing : n ≤ length old → after ≡ Nothing → Says f before after n old old n
-  says_nothing h e = record { within = h; same = λ d. (refl, refl); fresh = λ q d g. absurd (faulty (sym g ∙ ap refusal_in e)) }
-
-  pub says-new : {new : List ℕ} {m : ℕ} {r : Refusal} → is_new_of before after ≡ true → refusal_in after ≡ fault r → Shows (text_words f r) old new m → Says f before after n old new m
-  says-new {new} {m} {r} e g s = record {
-    within = s.fits;
-    same = λ d. absurd (true≢false (sym e ∙ d));
-    fresh = λ q d h. shows-as (ap (text_words f) (refusal (sym g ∙ h))) s;
-  }
-    where
-      refusal : {q : Refusal} → fault r ≡ fault q → r ≡ q
-      refusal h = cc

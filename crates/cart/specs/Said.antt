@@ -37,7 +37,7 @@ text_words f r = show_said f 0 r
 
 -- Of a scene of the cart, which is said by its line in the text of its show. A show has 4,096 opening lines at most.
 abbrev pub in_scene : Scene → Refusal → Refusal
-in_scene x r = record { number = r.number; part = r.part; place = x.place }
+in_scene x r = record { reason = r.reason; part = r.part; place = x.place }
 
 abbrev pub opening_lines_of : Scene → ℕ
 opening_lines_of x = cond (ltb x.openings 4096) x.openings 4096

@@ -9,7 +9,7 @@ use crate::saying::put_kept;
 use cart_files::{Collected, add_show, start};
 
 // What is held of the shows that came, and how many bytes the words of a refusal are.
-#[derive(Clone, Copy)]
+#[derive(Clone, Copy, Debug, PartialEq, Eq)]
 pub struct Gathering {
     pub held: Collected,
     pub said: usize,
@@ -76,10 +76,8 @@ pub fn gather(
         held: start(cart),
         said: 0,
     };
-    let mut i = 0;
-    while i < shows {
+    for i in 0..shows {
         gathered = add_file(rt, show_place(i, end), gathered, cart, said);
-        i += 1;
     }
     gathered
 }

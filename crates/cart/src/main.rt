@@ -38,14 +38,7 @@ fn is_named(rt: &HostRuntime, target: &[u8], place: usize) -> bool {
 
 // The same of so many shows.
 fn is_show(rt: &HostRuntime, target: &[u8], end: usize, shows: usize) -> bool {
-    let mut i = 0;
-    while i < shows {
-        if is_named(rt, target, show_place(i, end)) {
-            return true;
-        }
-        i += 1;
-    }
-    false
+    (0..shows).any(|i| is_named(rt, target, show_place(i, end)))
 }
 
 // Saves the cart, but not in the place of a source.
@@ -88,14 +81,6 @@ fn say_sheet(rt: &HostRuntime, one: &[u8], sheet: &[u8], r: Refusal)
     console::say(rt, &said[..n]);
 }
 
-// Whether a refusal is of the sheet.
-fn is_first(part: Part) -> bool {
-    match part {
-        Part::First => true,
-        _ => false,
-    }
-}
-
 // Says a refusal: of the sheet; of a text, in the words that are there; or of a scene of the cart.
 fn say_refused(
     rt: &HostRuntime,
@@ -109,8 +94,7 @@ fn say_refused(
 )
     requires { length one.now ≤ 4096 }
 {
-    let part = r.part;
-    if is_first(part) {
+    if r.part == Part::First {
         say_sheet(rt, one, sheet, r);
         return;
     }
@@ -121,13 +105,17 @@ fn say_refused(
 }
 
 // Prints what is decided.
-fn print_decision(rt: &HostRuntime, sheet: &[u8], cart: &[u8], held: Collected) -> Loading
+fn print_decision(
+    rt: &HostRuntime,
+    sheet: &[u8],
+    cart: &[u8],
+    held: Collected,
+) -> Result<Loading, Refusal>
     requires { held.length ≤ length cart.now }
 {
     let mut text = [0u8; text::TEXT];
     let decision = put_decision(sheet, cart, held, &mut text);
-    let n = decision.text;
-    console::print(rt, &text[..n]);
+    console::print(rt, &text[..decision.text]);
     decision.answer
 }
 
@@ -144,13 +132,11 @@ fn conclude(
 )
     requires { (length one.now ≤ 4096) × (held.length ≤ length cart.now) }
 {
-    let answer = print_decision(rt, sheet, cart, held);
-    let length = held.length;
-    let kept = held.kept;
-    match answer {
-        Loading::Loaded(_) => save(rt, one, target, end, held.count, &cart[..length]),
-        Loading::Rejected(i) => say_rejected(rt, one, show_place(i, end)),
-        Loading::Refused(r) => say_refused(rt, one, sheet, end, &cart[..length], kept, words, r),
+    let shows = &cart[..held.length];
+    match print_decision(rt, sheet, cart, held) {
+        Ok(Loading::Loaded(_)) => save(rt, one, target, end, held.count, shows),
+        Ok(Loading::Rejected(i)) => say_rejected(rt, one, show_place(i, end)),
+        Err(r) => say_refused(rt, one, sheet, end, shows, held.kept, words, r),
     }
 }
 
@@ -227,10 +213,10 @@ fn usage(rt: &HostRuntime) {
 }
 
 fn main(rt: HostRuntime) {
-    let asked = console::arguments(&rt);
-    if asked.usage || asked.explain || asked.names < 3 || 66 < asked.names {
-        usage(&rt);
-        return;
+    match console::arguments(&rt) {
+        Some(asked) if !asked.explain && (3..=66).contains(&asked.names) => {
+            run_named(&rt, asked.names - 2);
+        }
+        _ => usage(&rt),
     }
-    run_named(&rt, asked.names - 2);
 }

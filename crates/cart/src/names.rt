@@ -7,14 +7,9 @@ const SHOWS: usize = 64;
 // The place of the first `--`, or of the end of the arguments.
 pub fn end_place(rt: &HostRuntime) -> usize {
     let count = console::arg_count(rt);
-    let mut i = 1;
-    while i < count {
-        if console::is_end(rt, i) {
-            return i;
-        }
-        i += 1;
-    }
-    count
+    (1..count)
+        .find(|i| console::is_end(rt, *i))
+        .unwrap_or(count)
 }
 
 // The place of a name, counted from 0: all before `--` are names, and all behind it.

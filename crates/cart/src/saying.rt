@@ -2,7 +2,7 @@
 ghost use Rattle.std.specs.Prelude.{◌≡◌, ◌≤◌, length};
 ghost use Rattle.console.specs.Printed.{Shows};
 ghost use Rattle.cart.specs.Said.{sheet_file, show_file, sheet_words, show_said, opening_lines_of, unknown_words};
-ghost use Rattle.cart.specs.Said.{rejected_words, one_words, keeps_nothing, keeps_long, is_new_of, Says};
+ghost use Rattle.cart.specs.Said.{rejected_words, one_words, is_new_of, Says};
 
 use cart_files::{Kept, Scene};
 use format::put_literal;
@@ -49,8 +49,7 @@ pub fn put_unknown(name: &[u8], scene: Scene, r: Refusal, out: &mut [u8]) -> usi
     ensures { Shows (unknown_words name.now scene r) out.old out.new result }
 {
     let openings = opening_lines(scene);
-    let part = r.part;
-    let q = refuse(r.number, part, scene.place);
+    let q = refuse(r.reason, r.part, scene.place);
     put_show(name, b"", openings, q, out)
 }
 
@@ -60,28 +59,8 @@ fn is_new(before: Kept, after: Kept) -> bool
 {
     match after {
         Kept::Nothing => false,
-        Kept::Text(_) => is_nothing(before),
-        Kept::Long(_) => !is_long(before),
-    }
-}
-
-fn is_nothing(kept: Kept) -> bool
-    ensures { result ≡ keeps_nothing kept }
-{
-    match kept {
-        Kept::Nothing => true,
-        Kept::Text(_) => false,
-        Kept::Long(_) => false,
-    }
-}
-
-fn is_long(kept: Kept) -> bool
-    ensures { result ≡ keeps_long kept }
-{
-    match kept {
-        Kept::Nothing => false,
-        Kept::Text(_) => false,
-        Kept::Long(_) => true,
+        Kept::Text(_) => matches!(before, Kept::Nothing),
+        Kept::Long(_) => !matches!(before, Kept::Long(_)),
     }
 }
 
@@ -103,8 +82,7 @@ pub fn put_kept(
     }
     match after {
         Kept::Nothing => n,
-        Kept::Text(r) => put_show(name, text, 0, r, out),
-        Kept::Long(r) => put_show(name, text, 0, r, out),
+        Kept::Text(r) | Kept::Long(r) => put_show(name, text, 0, r, out),
     }
 }
 

@@ -1,6 +1,5 @@
 // What the program prints, made in a lent slice.
 ghost use Rattle.std.specs.Prelude.{◌≤◌, length};
-ghost use Rattle.carts.specs.Loads.{loading_says};
 ghost use Rattle.console.specs.Printed.{Shows};
 ghost use Rattle.cart.specs.Text.{rejected_text, load_text, Decides};
 
@@ -8,14 +7,15 @@ use cart_files::{Collected, decide};
 use carts::Loading;
 use format::put_literal;
 use numbers::put_field;
+use slices::Refusal;
 
 // Room for what is printed: a word and a number; a refusal asks for 80 bytes.
 pub const TEXT: usize = 80;
 
 // What is decided, and how many bytes are printed.
-#[derive(Clone, Copy)]
+#[derive(Clone, Copy, Debug, PartialEq, Eq)]
 pub struct Decision {
-    pub answer: Loading,
+    pub answer: Result<Loading, Refusal>,
     pub text: usize,
 }
 
@@ -29,14 +29,14 @@ fn put_rejected(i: usize, out: &mut [u8]) -> usize
 }
 
 // Nothing where the cart is loaded; else the show that is rejected, or the refusal.
-fn put_answer(answer: Loading, out: &mut [u8]) -> usize
+fn put_answer(answer: Result<Loading, Refusal>, out: &mut [u8]) -> usize
     requires { 80 ≤ length out.old }
-    ensures { Shows (load_text (loading_says answer)) out.old out.new result }
+    ensures { Shows (load_text answer) out.old out.new result }
 {
     match answer {
-        Loading::Loaded(_) => 0,
-        Loading::Rejected(i) => put_rejected(i, out),
-        Loading::Refused(r) => console::refusal_text(r, out),
+        Ok(Loading::Loaded(_)) => 0,
+        Ok(Loading::Rejected(i)) => put_rejected(i, out),
+        Err(r) => console::refusal_text(r, out),
     }
 }
 

@@ -1,4 +1,6 @@
 -- What is held after one text more. Assumes nothing.
+use Rattle.std.specs.Prelude.{Ok, Err}
+use mathlib.Core.Logic.{◌⊎◌, inl, inr}
 use mathlib.Core.Path.{◌≡◌, refl, ap, sym, subst, ◌∙◌}
 use mathlib.Core.List.{List, [], ◌∷◌, ◌++◌}
 use Prim.Native.Nat.{ℕ, zero, suc, ◌+◌, ◌≤◌, ◌<◌}
@@ -6,9 +8,7 @@ use native.Mathlib.Omega.{arith}
 use lib.ListN.{length, take, set, length-append}
 use lib.Seq.{sets}
 use Rattle.slices.specs.declared.Refusal.{Refusal}
-use Rattle.slices.specs.declared.Written.{Written}
-use Rattle.slices.specs.declared.Written.TheVariants as written
-use Rattle.slices.specs.Refusals.{Fault, sound, fault, ◌then◌, written_says}
+use Rattle.slices.specs.Refusals.{Fault, sound, fault, ◌then◌}
 use Rattle.slices.proofs.Refusals.{passed, failed, faulty, then-left, then-right, was-given, was-refused}
 use Rattle.slices.specs.Halves.{half_bytes_of}
 use Rattle.slices.proofs.Halved.{length-half_bytes_of}
@@ -134,11 +134,15 @@ Some Nothing = ⊥
 Some (Text q) = Unit {0}
 Some (Long q) = Unit {0}
 
-pub text-some : {q : Refusal} → Text q ≡ Nothing → ⊥
+text-some : {q : Refusal} → Text q ≡ Nothing → ⊥
 text-some e = subst Some e tt
 
-pub long-some : {q : Refusal} → Long q ≡ Nothing → ⊥
+long-some : {q : Refusal} → Long q ≡ Nothing → ⊥
 long-some e = subst Some e tt
+
+pub refused-some : {k : Kept} → ((q : Refusal) × (k ≡ Text q)) ⊎ ((q : Refusal) × (k ≡ Long q)) → k ≡ Nothing → ⊥
+refused-some (inl h) e = text-some (sym h.1 ∙ e)
+refused-some (inr h) e = long-some (sym h.1 ∙ e)
 
 -- what the code answers
 module _ (t : List ℕ) {old : List ℕ} {held : Collected} (few : held.count < 64) (bounded : Bounded held) where
@@ -150,30 +154,30 @@ module _ (t : List ℕ) {old : List ℕ} {held : Collected} (few : held.count < 
   }
 
   module _ (d : long_test t ≡ sound) where
-    pub adds_same : {r : Collected} (k : Kept) → held.kept ≡ k → (k ≡ Nothing → ⊥) → r ≡ record { count = held.count + 1; length = held.length; kept = held.kept } → Adds t old old held r
-    adds_same k h n e = record {
+    pub adds_same : {r : Collected} → (held.kept ≡ Nothing → ⊥) → r ≡ record { count = held.count + 1; length = held.length; kept = held.kept } → Adds t old old held r
+    adds_same n e = record {
       count = ap (λ (x : Collected). x.count) e;
       bounded = omega (arith, ap (λ (x : Collected). x.count) e, ap (λ (x : Collected). x.length) e);
-      gathered = λ ts g. gathered-same ts t k d h n e g;
+      gathered = λ ts g. gathered-same ts t held.kept d refl n e g;
     }
 
-    module _ (h : held.kept ≡ Nothing) {new : List ℕ} {answer : Written} (p : ShowPut t old held.length new answer) where
-      pub adds-refused : {r : Collected} {q : Refusal} → answer ≡ written.Refused q → r ≡ record { count = held.count + 1; length = held.length; kept = Text q } → Adds t old new held r
-      adds-refused {r} {q} a e = record {
+    module _ (h : held.kept ≡ Nothing) {new : List ℕ} where
+      pub adds-refused : {r : Collected} {q : Refusal} → ShowPut t old held.length new (Err q) → r ≡ record { count = held.count + 1; length = held.length; kept = Text q } → Adds t old new held r
+      adds-refused {r} {q} p e = record {
         count = ap (λ (x : Collected). x.count) e;
         bounded = omega (arith, ap (λ (x : Collected). x.count) e, ap (λ (x : Collected). x.length) e);
         gathered = λ ts g. subst (λ (l : List ℕ). Gathered (ts ++ (t ∷ [])) l r) (sym kept) (gathered-refused ts t d h g is e);
       }
         where
           is : text_test t ≡ fault q
-          is = was-refused (text_test t) (held.length + length (show_of t)) (sym (ap written_says a) ∙ p.says)
+          is = was-refused (text_test t) (held.length + length (show_of t)) p.says
 
           kept : new ≡ old
           kept = p.cells ∙ ap (λ (f : Fault). placed f old held.length (show_of t)) is
 
-      pub adds-filled : {n v : ℕ} → length old ≡ 524545 → answer ≡ written.Filled n → v ≡ held.count + 1
+      pub adds-filled : {n v : ℕ} → length old ≡ 524545 → ShowPut t old held.length new (Ok n) → v ≡ held.count + 1
           → Adds t old (set new 0 v) held (record { count = held.count + 1; length = n; kept = Nothing })
-      adds-filled {n} {v} whole a k = record {
+      adds-filled {n} {v} whole p k = record {
         count = refl;
         bounded = omega (arith, is.1, show-few t is.0);
         gathered = λ ts g. subst (λ (l : List ℕ). Gathered (ts ++ (t ∷ [])) (set l 0 v) (record { count = held.count + 1; length = n; kept = Nothing })) (sym put)
@@ -181,7 +185,7 @@ module _ (t : List ℕ) {old : List ℕ} {held : Collected} (few : held.count < 
       }
         where
           is : (text_test t ≡ sound) × (n ≡ held.length + length (show_of t))
-          is = was-given (text_test t) (held.length + length (show_of t)) (sym (ap written_says a) ∙ p.says)
+          is = was-given (text_test t) (held.length + length (show_of t)) p.says
 
           put : new ≡ sets old held.length (show_of t)
           put = p.cells ∙ ap (λ (f : Fault). placed f old held.length (show_of t)) is.0

@@ -1,4 +1,5 @@
 -- What the cart program is refused for, in its order.
+use Rattle.slices.specs.declared.Reason.TheVariants.{SheetLength, EmptyLoop, UnknownLetter, OffLayout}
 use mathlib.Core.Path.{◌≡◌, refl}
 use mathlib.Core.List.{List, [], ◌∷◌}
 use Prim.Native.Nat.{ℕ}
@@ -30,8 +31,8 @@ says sheet ts = fault_in (decided sheet ts)
 
 -- a bad sheet before an empty text; an empty text behind one whose scene B has not; the first of two texts; that scene
 pub refusals :
-    (says (2 ∷ []) ([] ∷ []) ≡ fault_of 1 First 1) × (says b (bytes "part scene\nloop 2\n" ∷ [] ∷ []) ≡ fault_of 11 Second 0)
-    × (says b (bytes "part scene\n" ∷ [] ∷ []) ≡ fault_of 8 Second 11)
-    × (says b (bytes "part scene\nloop 0\n" ∷ bytes "part scene\nloop 2\n" ∷ []) ≡ fault_of 9 Loop 10)
+    (says (2 ∷ []) ([] ∷ []) ≡ fault_of SheetLength First 1) × (says b (bytes "part scene\nloop 2\n" ∷ [] ∷ []) ≡ fault_of OffLayout Second 0)
+    × (says b (bytes "part scene\n" ∷ [] ∷ []) ≡ fault_of EmptyLoop Second 11)
+    × (says b (bytes "part scene\nloop 0\n" ∷ bytes "part scene\nloop 2\n" ∷ []) ≡ fault_of UnknownLetter Loop 10)
 unfolding decided first_fault shows_in words_of reading seq each labelled repeated repeats least number_at_value run_of value_of first_outside_of form_of sheet_fault header_fault tables_fault progress_fault progress_at_value sum each_show half_bytes_of rows shows_from end_from layout_fault show_fault shows_fault cart_fault
 refusals = (refl, refl, refl, refl)

@@ -1,4 +1,5 @@
 -- A scene of a cart that is refused is found in the show that is refused for it. Assumes nothing.
+use Rattle.slices.specs.declared.Reason.TheVariants.{EmptyLoop, UnknownLetter}
 use mathlib.Core.Path.{◌≡◌, refl, ap, sym, subst, ◌∙◌}
 use mathlib.Core.Bool.{Bool, true, false, cond}
 use mathlib.Core.List.{List, [], ◌∷◌}
@@ -32,13 +33,13 @@ fault-was : {q r : Refusal} → fault q ≡ fault r → q ≡ r
 fault-was e = cc
 
 -- a scan refuses a cell that it looks at
-scanned : (part : Part) (s : ℕ) (b : List ℕ) (o m : ℕ) {r : Refusal} → scan 9 part 0 s b o m ≡ fault r → (o ≤ r.place) × (r.place < o + m)
+scanned : (part : Part) (s : ℕ) (b : List ℕ) (o m : ℕ) {r : Refusal} → scan UnknownLetter part 0 s b o m ≡ fault r → (o ≤ r.place) × (r.place < o + m)
 scanned part s b o m {r} = by (ltb i m) refl
   where
     i : ℕ
     i = first_outside_of 0 s b o m
 
-    by : (t : Bool) → ltb (first_outside_of 0 s b o m) m ≡ t → when t 9 part (o + first_outside_of 0 s b o m) ≡ fault r → (o ≤ r.place) × (r.place < o + m)
+    by : (t : Bool) → ltb (first_outside_of 0 s b o m) m ≡ t → when t UnknownLetter part (o + first_outside_of 0 s b o m) ≡ fault r → (o ≤ r.place) × (r.place < o + m)
     by true h e =
         let d : o + first_outside_of 0 s b o m ≡ r.place = ap (λ (x : Refusal). x.place) (fault-was e) in
         let l : first_outside_of 0 s b o m < m = ltb-true _ m h in
@@ -57,7 +58,7 @@ pub record SceneFound (s : ℕ) (b : List ℕ) (r : Refusal) (at i c : ℕ) : Ty
   pub refuses : show_fault s b (end_from b at show) ≡ fault r
   pub scene : scene_from b at i c r.place ≡ scene_in_value b (end_from b at show) (i + show) r.place
 
-module _ (s : ℕ) (b : List ℕ) (r : Refusal) (nine : r.number ≡ 9) where
+module _ (s : ℕ) (b : List ℕ) (r : Refusal) (unknown : r.reason ≡ UnknownLetter) where
   -- a scene of a show lies within it
   within : (at : ℕ) → show_fault s b at ≡ fault r → (at ≤ r.place) × (r.place < end_at b at)
   unfolding show_fault
@@ -68,19 +69,19 @@ module _ (s : ℕ) (b : List ℕ) (r : Refusal) (nine : r.number ≡ 9) where
       (λ g. let d = scanned Loop s b (period_at b at) (period_length b at) g in (omega (arith, d.0), omega (arith, d.1))) h) e
     where
       opening : Fault
-      opening = scan 9 Opening 0 s b (prefix_at at) (prefix_length b at)
+      opening = scan UnknownLetter Opening 0 s b (prefix_at at) (prefix_length b at)
 
       empty : Fault
-      empty = when (eqb (period_length b at) 0) 8 Loop (period_at b at)
+      empty = when (eqb (period_length b at) 0) EmptyLoop Loop (period_at b at)
 
       period : Fault
-      period = scan 9 Loop 0 s b (period_at b at) (period_length b at)
+      period = scan UnknownLetter Loop 0 s b (period_at b at) (period_length b at)
 
-      not-empty : when (eqb (period_length b at) 0) 8 Loop (period_at b at) ≡ fault r → ⊥
+      not-empty : when (eqb (period_length b at) 0) EmptyLoop Loop (period_at b at) ≡ fault r → ⊥
       not-empty = by (eqb (period_length b at) 0)
         where
-          by : (t : Bool) → when t 8 Loop (period_at b at) ≡ fault r → ⊥
-          by true g = let d : 8 ≡ r.number = ap (λ (x : Refusal). x.number) (fault-was g) in omega arith
+          by : (t : Bool) → when t EmptyLoop Loop (period_at b at) ≡ fault r → ⊥
+          by true g = let d : EmptyLoop ≡ UnknownLetter = ap (λ (x : Refusal). x.reason) (fault-was g) ∙ unknown in cc
           by false g = faulty (sym g)
 
   pub scene-found : (c at i : ℕ) → shows_fault s b at c ≡ fault r → SceneFound s b r at i c
@@ -151,14 +152,14 @@ module _ (b : List ℕ) where
       by false e = omega (arith, n)
 
 -- A scene of the cart of texts that are read stands in a line of its show's text.
-pub scene-lined : (ts : List (List ℕ)) → 1 ≤ length ts → length ts ≤ 64 → texts_fault ts ≡ sound → (s : ℕ) (r : Refusal) → r.number ≡ 9
+pub scene-lined : (ts : List (List ℕ)) → 1 ≤ length ts → length ts ≤ 64 → texts_fault ts ≡ sound → (s : ℕ) (r : Refusal) → r.reason ≡ UnknownLetter
     → shows_fault s (cart_of ts) 1 (count_of (cart_of ts)) ≡ fault r → ((scene_at (cart_of ts) r.place).openings ≤ 4096) × ((scene_at (cart_of ts) r.place).place < 4096)
-scene-lined ts some few read s r nine e =
+scene-lined ts some few read s r unknown e =
     let b = cart_of ts in
-    let f = scene-found s b r nine (count_of b) 1 0 e in
+    let f = scene-found s b r unknown (count_of b) 1 0 e in
     let at = end_from b 1 f.show in
     let c = texts-cartable ts some few read in
     let part = few-at b (count_of b) 1 f.show f.among (subst Few (sym (bytes-shown (shows_in ts) c)) (few-shows ts read)) in
     let x = lined b at (0 + f.show) r.place (omega (arith, ends-upto b (count_of b) 1 f.show f.among, layout-exact b (bytes-sound (shows_in ts) c)))
-    (within s b r nine at f.refuses).1 part.0 part.1 in
+    (within s b r unknown at f.refuses).1 part.0 part.1 in
     subst (λ (y : Scene). (y.openings ≤ 4096) × (y.place < 4096)) (sym f.scene) x

@@ -1,14 +1,16 @@
 -- What the cart program decides of the bytes that came of its files, up to 65,537 of each: a sheet in any form, and the
 -- texts of shows. Assumes nothing.
-use Rattle.std.specs.Prelude.{List, [], ◌∷◌, ℕ, length}
+use Rattle.slices.specs.declared.Refusal.{Refusal}
+use Rattle.std.specs.Prelude.{List, [], ◌∷◌, ℕ, length, Result, Ok, Err}
 use Rattle.slices.specs.declared.Part.TheVariants.{First, Second}
-use Rattle.slices.specs.Refusals.{Fault, sound, ◌then◌, Result, given, refused}
+use Rattle.slices.specs.Refusals.{Fault, sound, ◌then◌}
 use Rattle.fdfa.specs.Family.{Words}
 use Rattle.sheet_forms.specs.Forms.{sheet_from}
 use Rattle.lasso_text.specs.Reading.{words_in, read_fault}
 use Rattle.show_files.specs.Shown.{shown}
 use Rattle.carts.specs.Layout.{show_bytes, cart_bytes}
-use Rattle.carts.specs.Loads.{Load, load_of}
+use Rattle.carts.specs.declared.Loading.{Loading}
+use Rattle.carts.specs.Loads.{load_of}
 use Rattle.console.specs.Files.{length_fault, after}
 
 -- What the first text is refused for that a test refuses.
@@ -42,10 +44,10 @@ abbrev pub cart_of : List (List ℕ) → List ℕ
 cart_of ts = cart_bytes (shows_in ts)
 
 -- The sheet is refused before the texts; then it judges their cart, for which there is room.
-abbrev pub of_sheet : Result (List ℕ) → List (List ℕ) → Result Load
-of_sheet (refused r) ts = refused r
-of_sheet (given b) ts = after (texts_fault ts) (load_of b (cart_of ts) (length (cart_of ts)))
+abbrev pub of_sheet : Result (List ℕ) Refusal → List (List ℕ) → Result Loading Refusal
+of_sheet (Err r) ts = Err r
+of_sheet (Ok b) ts = after (texts_fault ts) (load_of b (cart_of ts) (length (cart_of ts)))
 
 -- Files that are too long are refused before all else.
-unfoldable pub decided : List ℕ → List (List ℕ) → Result Load
+unfoldable pub decided : List ℕ → List (List ℕ) → Result Loading Refusal
 decided b ts = after (length_fault First (length b) then too_long_fault ts) (of_sheet (sheet_from First b) ts)

@@ -1,10 +1,10 @@
 -- A cart that is gathered from texts, one after the other. Assumes nothing.
-use Rattle.std.specs.Prelude.{◌≡◌, List, [], ◌∷◌, ◌++◌, ℕ, ◌+◌, ◌*◌, ◌≤◌, length, take}
+use Rattle.std.specs.Prelude.{◌≡◌, List, [], ◌∷◌, ◌++◌, ℕ, ◌+◌, ◌*◌, ◌≤◌, length, take, Result, Ok, Err}
 use Rattle.std.proofs.lemmas.List.Edits.{sets}
 use Rattle.slices.specs.declared.Refusal.{Refusal}
-use Rattle.slices.specs.declared.Written.{Written}
-use Rattle.slices.specs.Refusals.{Fault, sound, fault, Result, given, refused, unless, written_says}
-use Rattle.carts.specs.Loads.{Load, load_of}
+use Rattle.slices.specs.Refusals.{Fault, sound, fault, unless}
+use Rattle.carts.specs.declared.Loading.{Loading}
+use Rattle.carts.specs.Loads.{load_of}
 use Rattle.cart_files.specs.declared.Kept.{Kept}
 use Rattle.cart_files.specs.declared.Kept.TheVariants.{Nothing, Text, Long}
 use Rattle.cart_files.specs.declared.Collected.{Collected}
@@ -50,21 +50,21 @@ abbrev pub placed : Fault → List ℕ → ℕ → List ℕ → List ℕ
 placed sound old at x = sets old at x
 placed (fault r) old at x = old
 
-pub record ShowPut (t old : List ℕ) (at : ℕ) (new : List ℕ) (r : Written) : Type 0 where
-  pub says : written_says r ≡ unless (text_test t) (at + length (show_of t))
+pub record ShowPut (t old : List ℕ) (at : ℕ) (new : List ℕ) (r : Result ℕ Refusal) : Type 0 where
+  pub says : r ≡ unless (text_test t) (at + length (show_of t))
   pub cells : new ≡ placed (text_test t) old at (show_of t)
 
 -- What the code decides of a sheet and of a cart, by what is kept.
-abbrev pub of_cart : List ℕ → List ℕ → Kept → Result Load
+abbrev pub of_cart : List ℕ → List ℕ → Kept → Result Loading Refusal
 of_cart b cart Nothing = load_of b cart (length cart)
-of_cart b cart (Text r) = refused r
-of_cart b cart (Long r) = refused r
+of_cart b cart (Text r) = Err r
+of_cart b cart (Long r) = Err r
 
-abbrev pub of_short : Result (List ℕ) → List ℕ → Kept → Result Load
-of_short (refused r) cart k = refused r
-of_short (given b) cart k = of_cart b cart k
+abbrev pub of_short : Result (List ℕ) Refusal → List ℕ → Kept → Result Loading Refusal
+of_short (Err r) cart k = Err r
+of_short (Ok b) cart k = of_cart b cart k
 
-abbrev pub of_long : Result (List ℕ) → List ℕ → Kept → Result Load
+abbrev pub of_long : Result (List ℕ) Refusal → List ℕ → Kept → Result Loading Refusal
 of_long x cart Nothing = of_short x cart Nothing
 of_long x cart (Text r) = of_short x cart (Text r)
-of_long x cart (Long r) = refused r
+of_long x cart (Long r) = Err r

@@ -8,11 +8,9 @@ ghost use Rattle.cart_files.specs.Decided.{long_test};
 ghost use Rattle.cart_files.specs.Gathered.{Gathered, Bounded, Adds, longer, ShowPut};
 
 use crate::{Collected, Kept};
-use console::Length;
 use format::put_literal;
-use lasso_text::Lengths;
 use show_files::SCENES;
-use slices::{Part, Refusal, Written, narrow};
+use slices::{Part, Refusal};
 
 // No text came yet.
 pub fn start(cart: &mut [u8]) -> Collected
@@ -35,32 +33,26 @@ fn put_words(opening: &[u8], period: &[u8], cart: &mut [u8], at: usize) -> usize
 {
     let m = opening.len();
     let n = period.len();
-    let lengths = [
-        narrow(m % 256),
-        narrow(m / 256),
-        narrow(n % 256),
-        narrow(n / 256),
-    ];
-    let headed = put_literal(&lengths, cart, at);
+    let led = put_literal(&(m as u16).to_le_bytes(), cart, at);
+    let headed = put_literal(&(n as u16).to_le_bytes(), cart, led);
     let opened = put_literal(opening, cart, headed);
     put_literal(period, cart, opened)
 }
 
 // The show of a text, behind so many bytes of the cart, and how many bytes these are then; or the refusal.
-fn put_show(text: &[u8], cart: &mut [u8], at: usize) -> Written
+fn put_show(text: &[u8], cart: &mut [u8], at: usize) -> Result<usize, Refusal>
     requires { at ≤ 524545 }
     ensures { ShowPut text.now cart.old at cart.new result }
 {
     let mut opening = [0u8; SCENES];
     let mut period = [0u8; SCENES];
-    let lengths = lasso_text::read(text, Part::Second, &mut opening, &mut period);
-    match lengths {
-        Lengths::Refused(r) => Written::Refused(r),
-        Lengths::Filled(m, n) => {
-            let end = put_words(&opening[..m], &period[..n], cart, at);
-            Written::Filled(end)
-        }
-    }
+    let lengths = lasso_text::read(text, Part::Second, &mut opening, &mut period)?;
+    Ok(put_words(
+        &opening[..lengths.prefix],
+        &period[..lengths.period],
+        cart,
+        at,
+    ))
 }
 
 // One text more, and what is refused now.
@@ -81,12 +73,11 @@ fn add_next(text: &[u8], held: Collected, cart: &mut [u8]) -> Collected
         (held.kept ≡ Nothing) }
     ensures { Adds text.now cart.old cart.new held result }
 {
-    let answer = put_show(text, cart, held.length);
-    match answer {
-        Written::Refused(r) => counted(held, Kept::Text(r)),
-        Written::Filled(length) => {
+    match put_show(text, cart, held.length) {
+        Err(r) => counted(held, Kept::Text(r)),
+        Ok(length) => {
             let count = held.count + 1;
-            cart[0] = narrow(count);
+            cart[0] = count as u8;
             Collected {
                 count,
                 length,
@@ -101,11 +92,9 @@ fn add_short(text: &[u8], held: Collected, cart: &mut [u8]) -> Collected
     requires { (length cart.old ≡ 524545) × (held.count < 64) × Bounded held × (long_test text.now ≡ sound) }
     ensures { Adds text.now cart.old cart.new held result }
 {
-    let kept = held.kept;
-    match kept {
+    match held.kept {
         Kept::Nothing => add_next(text, held, cart),
-        Kept::Text(_) => counted(held, kept),
-        Kept::Long(_) => counted(held, kept),
+        Kept::Text(_) | Kept::Long(_) => counted(held, held.kept),
     }
 }
 
@@ -114,11 +103,9 @@ fn add_long(held: Collected, r: Refusal) -> Collected
     requires { held.count < 64 }
     ensures { result ≡ record { count = held.count + 1; length = held.length; kept = longer held.kept r } }
 {
-    let kept = held.kept;
-    match kept {
-        Kept::Nothing => counted(held, Kept::Long(r)),
-        Kept::Text(_) => counted(held, Kept::Long(r)),
-        Kept::Long(_) => counted(held, kept),
+    match held.kept {
+        Kept::Nothing | Kept::Text(_) => counted(held, Kept::Long(r)),
+        Kept::Long(_) => counted(held, held.kept),
     }
 }
 
@@ -127,9 +114,8 @@ pub fn add_show(text: &[u8], held: Collected, cart: &mut [u8]) -> Collected
     requires { (length cart.old ≡ 524545) × (held.count < 64) × Bounded held }
     ensures { Adds text.now cart.old cart.new held result }
 {
-    let length = console::check_length(text.len(), Part::Second);
-    match length {
-        Length::Refused(r) => add_long(held, r),
-        Length::Good => add_short(text, held, cart),
+    match console::check_length(text.len(), Part::Second) {
+        Err(r) => add_long(held, r),
+        Ok(()) => add_short(text, held, cart),
     }
 }

@@ -16,7 +16,7 @@ pub const CART: usize = 524545;
 
 // What is refused first of the texts that came: nothing; a text, or its room; or, before all such, a text that is too
 // long.
-#[derive(Clone, Copy)]
+#[derive(Clone, Copy, Debug, PartialEq, Eq)]
 pub enum Kept {
     Nothing,
     Text(Refusal),
@@ -24,7 +24,7 @@ pub enum Kept {
 }
 
 // What is held of the texts that came: how many they are, how many bytes of the cart, and the refusal.
-#[derive(Clone, Copy)]
+#[derive(Clone, Copy, Debug, PartialEq, Eq)]
 pub struct Collected {
     pub count: usize,
     pub length: usize,
@@ -32,7 +32,7 @@ pub struct Collected {
 }
 
 // A scene of a cart: the index of its show, how many scenes the opening of that show has, and the place in its part.
-#[derive(Clone, Copy)]
+#[derive(Clone, Copy, Debug, PartialEq, Eq)]
 pub struct Scene {
     pub show: usize,
     pub openings: usize,

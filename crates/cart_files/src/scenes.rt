@@ -4,13 +4,16 @@ ghost use Rattle.carts.specs.Reading.{length_at};
 ghost use Rattle.cart_files.specs.Scenes.{scene_at};
 
 use crate::Scene;
-use slices::wide;
 
 // A byte of a cart, 0 past its end.
 fn byte_at(cart: &[u8], at: usize) -> usize
     ensures { (result ≡ get_or cart.now at 0) × (result < 256) }
 {
-    if at < cart.len() { wide(cart[at]) } else { 0 }
+    if at < cart.len() {
+        usize::from(cart[at])
+    } else {
+        0
+    }
 }
 
 // A length in the header of a show.
@@ -25,7 +28,7 @@ fn length_at(cart: &[u8], at: usize) -> usize
 fn behind(place: usize, start: usize) -> usize
     ensures { result ≡ place - start }
 {
-    if place < start { 0 } else { place - start }
+    place.saturating_sub(start)
 }
 
 // A scene of the show whose opening and loop begin at these places.
@@ -59,8 +62,7 @@ pub fn scene_at(cart: &[u8], place: usize) -> Scene
 {
     let count = byte_at(cart, 0);
     let mut at = 1;
-    let mut i = 0;
-    while i < count {
+    for i in 0..count {
         let prefix = at + 4;
         let period = prefix + length_at(cart, at);
         let end = period + length_at(cart, at + 2);
@@ -68,7 +70,6 @@ pub fn scene_at(cart: &[u8], place: usize) -> Scene
             return scene_in(i, prefix, period, place);
         }
         at = end;
-        i += 1;
     }
     Scene {
         show: count,

@@ -1,4 +1,5 @@
 -- A show of a cart is refused for what it is refused alone, with the place counted from the cart's first byte. Assumes nothing.
+use Rattle.slices.specs.declared.Reason.TheVariants.{EmptyLoop, UnknownLetter}
 use mathlib.Core.Path.{◌≡◌, refl, ap, sym, ◌∙◌}
 use mathlib.Core.Bool.{Bool, true, false}
 use mathlib.Core.List.{List}
@@ -34,7 +35,7 @@ module _ (s : ℕ) (b : List ℕ) (at : ℕ) (within : end_at b at ≤ length b)
   pub show-alone : show_fault s b at ≡ counted (prefix_at at) (period_at b at) (letters_fault s u v)
   unfolding show_fault letters_fault period_fault
   show-alone =
-      (λ i. when (ltb (first i) (m i)) 9 Opening (prefix_at at + first i) then when (eqb (n i) 0) 8 Loop (period_at b at) then when (ltb (second i) (n i)) 9 Loop (period_at b at + second i))
+      (λ i. when (ltb (first i) (m i)) UnknownLetter Opening (prefix_at at + first i) then when (eqb (n i) 0) EmptyLoop Loop (period_at b at) then when (ltb (second i) (n i)) UnknownLetter Loop (period_at b at + second i))
       ∙ by (ltb (first_outside_of 0 s u 0 (length u)) (length u)) (eqb (length v) 0) (ltb (first_outside_of 0 s v 0 (length v)) (length v))
     where
       m : prefix_length b at ≡ length u
@@ -50,10 +51,10 @@ module _ (s : ℕ) (b : List ℕ) (at : ℕ) (within : end_at b at ≤ length b)
       second = scanned s b (period_at b at) (period_length b at) within ∙ ap (first_outside_of 0 s v 0) n
 
       by : (x y z : Bool)
-          → (when x 9 Opening (prefix_at at + first_outside_of 0 s u 0 (length u)) then when y 8 Loop (period_at b at) then when z 9 Loop (period_at b at + first_outside_of 0 s v 0 (length v)))
+          → (when x UnknownLetter Opening (prefix_at at + first_outside_of 0 s u 0 (length u)) then when y EmptyLoop Loop (period_at b at) then when z UnknownLetter Loop (period_at b at + first_outside_of 0 s v 0 (length v)))
           ≡ counted (prefix_at at) (period_at b at)
-          (when x 9 Opening (0 + first_outside_of 0 s u 0 (length u)) then when y 8 Loop 0 then when z 9 Loop (0 + first_outside_of 0 s v 0 (length v)))
-      by true y z = ap (λ (k : ℕ). fault_of 9 Opening (prefix_at at + k)) (sym (zero-add _))
-      by false true z = ap (fault_of 8 Loop) (sym (add-zero (period_at b at)))
-      by false false true = ap (λ (k : ℕ). fault_of 9 Loop (period_at b at + k)) (sym (zero-add _))
+          (when x UnknownLetter Opening (0 + first_outside_of 0 s u 0 (length u)) then when y EmptyLoop Loop 0 then when z UnknownLetter Loop (0 + first_outside_of 0 s v 0 (length v)))
+      by true y z = ap (λ (k : ℕ). fault_of UnknownLetter Opening (prefix_at at + k)) (sym (zero-add _))
+      by false true z = ap (fault_of EmptyLoop Loop) (sym (add-zero (period_at b at)))
+      by false false true = ap (λ (k : ℕ). fault_of UnknownLetter Loop (period_at b at + k)) (sym (zero-add _))
       by false false false = refl

@@ -1,4 +1,6 @@
 -- What is said of a cart, from what the code knows: of the verdicts on its shows, of the room, of the out slice. Assumes nothing.
+use Rattle.slices.specs.declared.Reason.TheVariants.{TooLittleRoom}
+use Rattle.std.specs.Prelude.{Result, Ok}
 use mathlib.Core.Path.{◌≡◌, ap, sym, ◌∙◌}
 use mathlib.Core.Bool.{Bool, true, false, cond}
 use mathlib.Core.List.{List}
@@ -8,37 +10,23 @@ use lib.ListN.{length}
 use borrow.Author.Tests.{eq-eqb, ne_eqb, ltb-false}
 use Rattle.slices.specs.declared.Part.TheVariants.{First, Out}
 use Rattle.slices.specs.declared.Refusal.{Refusal}
-use Rattle.slices.specs.Refusals.{Fault, sound, ◌then◌, short, Result, given, unless}
-use Rattle.slices.specs.Filling.{written}
-use Rattle.slices.proofs.Refusals.{then-left, then-right, when-sound, never-given, given-was, was-given}
+use Rattle.slices.specs.Refusals.{sound, ◌then◌, short}
+use Rattle.slices.proofs.Refusals.{then-left, then-right, when-sound, was-given}
 use Rattle.fdfa.specs.Family.{Fdfa, Words}
-use Rattle.fdfa.specs.Acceptance.{Verdict, accepts, verdict}
-use Rattle.packed.specs.Layout.{letter_count, decode}
+use Rattle.fdfa.specs.Acceptance.{accepts}
+use Rattle.packed.specs.Layout.{letter_count}
 use Rattle.packed.specs.Faults.{sheet_fault}
 use Rattle.packed.proofs.Soundness.{sound-valid}
-use Rattle.membership.specs.declared.Judgement.{Judgement}
-use Rattle.membership.specs.declared.Judgement.TheVariants as judgement
-use Rattle.membership.specs.Verdict.{lasso_fault, verdict_of, says_of}
+use Rattle.membership.specs.Verdict.{lasso_fault}
 use Rattle.membership.proofs.Judging.{valid-lasso}
 use Rattle.carts.specs.declared.Loading.{Loading}
-use Rattle.carts.specs.declared.Loading.TheVariants as loading
+use Rattle.carts.specs.declared.Loading.TheVariants.{Loaded, Rejected}
 use Rattle.carts.specs.Reading.{end_at, show_at, shows_from}
 use Rattle.carts.specs.Faults.{show_fault, shows_fault, cart_fault, load_fault}
-use Rattle.carts.specs.Loads.{first_rejected_of, Load, loaded, rejected, load_by, load_of, out_after, loading_says, CartLoaded}
+use Rattle.carts.specs.Loads.{first_rejected_of, load_by, load_of}
 use Rattle.carts.specs.Steps.{GoodShows}
 use Rattle.carts.proofs.Onward.{end-rises, end-next, fault-next, rejected-next, rejected-last}
 use Rattle.carts.proofs.Shows.{show-lasso}
-
--- the verdict on a show that is not refused
-module _ (sheet u v : List ℕ) (good : lasso_fault sheet u v ≡ sound) (r : Judgement) (says : says_of r ≡ verdict_of sheet u v) where
-  is-given : says_of r ≡ given (verdict (decode sheet) u v)
-  is-given = says ∙ ap (λ (f : Fault). unless f (verdict (decode sheet) u v)) good
-
-  pub verdict-accepts : {accepted : Bool} {i j state end : ℕ} → r ≡ judgement.Given accepted i j state end → accepted ≡ accepts (decode sheet) u v
-  verdict-accepts e = ap (λ (x : Verdict). x.accepted) (given-was (sym (ap says_of e) ∙ is-given))
-
-  pub never-refused : {q : Refusal} → r ≡ judgement.Refused q → ⊥
-  never-refused e = never-given (sym (ap says_of e) ∙ is-given)
 
 -- the first of good shows lies within the cart and gets a verdict, and the others are good
 module _ {sheet b : List ℕ} {at i count : ℕ} (g : GoodShows sheet b at (count - i)) (h : i < count) where
@@ -79,39 +67,21 @@ module _ (F : Fdfa) (b : List ℕ) (at i count : ℕ) {first : ℕ} (inv : i + f
 
 -- loaded where every show is accepted, else rejected
 module _ (F : Fdfa) (ws : List Words) (size : ℕ) {i : ℕ} (is : i ≡ first_rejected_of F ws) where
-  pub is-loaded : i ≡ length ws → loaded size ≡ load_by F ws size
-  is-loaded e = sym (ap (λ (t : Bool). cond t (loaded size) (rejected (first_rejected_of F ws))) (eq-eqb _ (length ws) (sym is ∙ e)))
+  pub is-loaded : i ≡ length ws → Loaded size ≡ load_by F ws size
+  is-loaded e = sym (ap (λ (t : Bool). cond t (Loaded size) (Rejected (first_rejected_of F ws))) (eq-eqb _ (length ws) (sym is ∙ e)))
 
-  pub is-rejected : (i ≡ length ws → ⊥) → rejected i ≡ load_by F ws size
+  pub is-rejected : (i ≡ length ws → ⊥) → Rejected i ≡ load_by F ws size
   is-rejected e =
-      ap rejected is ∙ sym (ap (λ (t : Bool). cond t (loaded size) (rejected (first_rejected_of F ws))) (ne_eqb _ (length ws) (λ d. e (is ∙ d))))
+      ap Rejected is ∙ sym (ap (λ (t : Bool). cond t (Loaded size) (Rejected (first_rejected_of F ws))) (ne_eqb _ (length ws) (λ d. e (is ∙ d))))
 
 -- the out slice
-module _ (sheet b old : List ℕ) (answer : Loading) (says : loading_says answer ≡ load_of sheet b (length old)) where
-  pub loaded-room : {n : ℕ} → answer ≡ loading.Loaded n → length b ≤ length old
+module _ (sheet b old : List ℕ) (answer : Result Loading Refusal) (says : answer ≡ load_of sheet b (length old)) where
+  pub loaded-room : {n : ℕ} → answer ≡ Ok (Loaded n) → length b ≤ length old
   loaded-room {n} e =
       ltb-false (length old) (length b)
-      (when-sound _ 21 Out (length b)
+      (when-sound _ TooLittleRoom Out (length b)
       (then-right (cart_fault (letter_count sheet) b) (short Out (length old) (length b))
       (then-right (sheet_fault First sheet) (cart_fault (letter_count sheet) b then short Out (length old) (length b)) fine)))
     where
       fine : load_fault sheet b (length old) ≡ sound
-      fine = (was-given (load_fault sheet b (length old)) _ (sym (ap loading_says e) ∙ says)).0
-
-  pub loads-all : {n : ℕ} {out : List ℕ} → answer ≡ loading.Loaded n → out ≡ written b old → CartLoaded sheet b old out (loading.Loaded n)
-  loads-all e d = record {
-    says = sym (ap loading_says e) ∙ says;
-    cells = d ∙ ap (λ (x : Result Load). out_after x b old) (sym (ap loading_says e) ∙ says);
-  }
-
-  pub loads-none : {i : ℕ} → answer ≡ loading.Rejected i → CartLoaded sheet b old old (loading.Rejected i)
-  loads-none e = record {
-    says = sym (ap loading_says e) ∙ says;
-    cells = ap (λ (x : Result Load). out_after x b old) (sym (ap loading_says e) ∙ says);
-  }
-
-  pub loads-refused : {r : Refusal} → answer ≡ loading.Refused r → CartLoaded sheet b old old (loading.Refused r)
-  loads-refused e = record {
-    says = sym (ap loading_says e) ∙ says;
-    cells = ap (λ (x : Result Load). out_after x b old) (sym (ap loading_says e) ∙ says);
-  }
+      fine = (was-given (load_fault sheet b (length old)) _ (sym e ∙ says)).0

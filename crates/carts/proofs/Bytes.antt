@@ -1,4 +1,5 @@
 -- The bytes of shows are read as those shows, and bytes that are read are those of the shows that were read. Assumes nothing.
+use Rattle.std.specs.Prelude.{Ok}
 use mathlib.Core.Path.{◌≡◌, refl, ap, ap₂, sym, subst, ◌∙◌}
 use mathlib.Core.List.{List, [], ◌∷◌, ◌++◌, append-nil, append_assoc}
 use Prim.Native.Nat.{ℕ, zero, suc, ◌+◌, ◌/◌, ◌%◌, ◌≤◌, ◌<◌}
@@ -7,7 +8,7 @@ use native.Mathlib.Numerals.{add-one}
 use lib.ListN.{length, get_or, take, drop, length-append, drop_of_length-le, take-append-drop}
 use lib.Seq.{take_at, drop_at, drop-append-add, get_or-append-add, drop-cons, drop-drop}
 use Rattle.slices.specs.Halves.{half_bytes_of}
-use Rattle.slices.specs.Refusals.{sound, given}
+use Rattle.slices.specs.Refusals.{sound}
 use Rattle.slices.specs.Tables.{rows}
 use Rattle.slices.proofs.Refusals.{gives, was-given}
 use Rattle.fdfa.specs.Family.{Words}
@@ -129,8 +130,8 @@ bytes-sound ws f = layout-sound (cart_bytes ws) (λ e. omega arith) f.some f.few
 pub bytes-shown : (ws : List Words) → Cartable ws → shows_of (cart_bytes ws) ≡ ws
 bytes-shown ws f = (whole-shown ws f.parts).0
 
-pub bytes_read : (ws : List Words) → Cartable ws → cart_in (cart_bytes ws) ≡ given ws
-bytes_read ws f = sym (gives (shows_of (cart_bytes ws)) (bytes-sound ws f)) ∙ ap given (bytes-shown ws f)
+pub bytes_read : (ws : List Words) → Cartable ws → cart_in (cart_bytes ws) ≡ Ok ws
+bytes_read ws f = sym (gives (shows_of (cart_bytes ws)) (bytes-sound ws f)) ∙ ap Ok (bytes-shown ws f)
 
 -- bytes that are read
 module _ (b : List ℕ) (small : (i : ℕ) → i < length b → get_or b i 0 < 256) where
@@ -206,7 +207,7 @@ module _ (b : List ℕ) (small : (i : ℕ) → i < length b → get_or b i 0 < 2
       )
 
   -- Only the carts of shows are read, each as those shows.
-  pub read-bytes : (ws : List Words) → cart_in b ≡ given ws → Cartable ws × (b ≡ cart_bytes ws)
+  pub read-bytes : (ws : List Words) → cart_in b ≡ Ok ws → Cartable ws × (b ≡ cart_bytes ws)
   read-bytes ws e =
       subst (λ (l : List Words). Cartable l × (b ≡ cart_bytes l)) (sym g.1) (
         record {

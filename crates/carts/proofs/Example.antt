@@ -1,4 +1,5 @@
 -- A cart byte for byte, the shows that are read of it, and refusals, each at its place and in their order. Assumes nothing.
+use Rattle.slices.specs.declared.Reason.TheVariants.{EmptyLoop, UnknownLetter, CartCount, CartLength}
 use mathlib.Core.Path.{◌≡◌, refl}
 use mathlib.Core.List.{List, [], ◌∷◌, ◌++◌}
 use Prim.Native.Nat.{ℕ}
@@ -36,11 +37,11 @@ long-parts = (refl, refl)
 
 -- the layout: no byte; no show, 65 shows, whatever follows; a cart cut before every byte but the first, a byte left over
 pub layouts :
-    (layout_fault [] ≡ fault_of 28 Second 0)
-    × Refused layout_fault ((0 ∷ []) ∷ (65 ∷ []) ∷ (255 ∷ 0 ∷ 0 ∷ []) ∷ []) (λ n. fault_of 27 Second 0)
+    (layout_fault [] ≡ fault_of CartLength Second 0)
+    × Refused layout_fault ((0 ∷ []) ∷ (65 ∷ []) ∷ (255 ∷ 0 ∷ 0 ∷ []) ∷ []) (λ n. fault_of CartCount Second 0)
     × Refused layout_fault
     ((64 ∷ []) ∷ take 1 cart ∷ take 2 cart ∷ take 3 cart ∷ take 4 cart ∷ take 5 cart ∷ take 6 cart ∷ take 7 cart ∷ take 8 cart ∷ take 9 cart ∷ take 10 cart ∷ take 11 cart ∷ take 12 cart ∷ take 13 cart ∷ take 14 cart ∷ (cart ++ (0 ∷ [])) ∷ [])
-    (λ n. fault_of 28 Second n)
+    (λ n. fault_of CartLength Second n)
     × (layout_fault cart ≡ sound)
 unfolding layout_fault end_from
 layouts = (refl, (refl, (refl, (refl, tt))), (refl, (refl, (refl, (refl, (refl, (refl, (refl, (refl, (refl, (refl, (refl, (refl, (refl, (refl, (refl, (refl, tt)))))))))))))))), refl)
@@ -49,10 +50,10 @@ layouts = (refl, (refl, (refl, (refl, tt))), (refl, (refl, (refl, (refl, (refl, 
 -- the unknown letter of the next show; an empty loop where the cart ends; a byte left over, before an unknown letter and an empty loop
 pub letters :
     (cart_fault 2 cart ≡ sound)
-    × (cart_fault 2 (2 ∷ 0 ∷ 0 ∷ 1 ∷ 0 ∷ 0 ∷ 2 ∷ 0 ∷ 3 ∷ 0 ∷ 2 ∷ 1 ∷ 1 ∷ 3 ∷ 0 ∷ []) ≡ fault_of 9 Opening 10)
-    × (cart_fault 2 (2 ∷ 0 ∷ 0 ∷ 1 ∷ 0 ∷ 0 ∷ 2 ∷ 0 ∷ 3 ∷ 0 ∷ 0 ∷ 1 ∷ 1 ∷ 3 ∷ 0 ∷ []) ≡ fault_of 9 Loop 13)
-    × (cart_fault 2 (2 ∷ 0 ∷ 0 ∷ 0 ∷ 0 ∷ 1 ∷ 0 ∷ 1 ∷ 0 ∷ 7 ∷ 0 ∷ []) ≡ fault_of 8 Loop 5)
-    × (cart_fault 2 (1 ∷ 1 ∷ 0 ∷ 0 ∷ 0 ∷ 1 ∷ []) ≡ fault_of 8 Loop 6)
-    × (cart_fault 2 (1 ∷ 1 ∷ 0 ∷ 0 ∷ 0 ∷ 7 ∷ 7 ∷ []) ≡ fault_of 28 Second 7)
+    × (cart_fault 2 (2 ∷ 0 ∷ 0 ∷ 1 ∷ 0 ∷ 0 ∷ 2 ∷ 0 ∷ 3 ∷ 0 ∷ 2 ∷ 1 ∷ 1 ∷ 3 ∷ 0 ∷ []) ≡ fault_of UnknownLetter Opening 10)
+    × (cart_fault 2 (2 ∷ 0 ∷ 0 ∷ 1 ∷ 0 ∷ 0 ∷ 2 ∷ 0 ∷ 3 ∷ 0 ∷ 0 ∷ 1 ∷ 1 ∷ 3 ∷ 0 ∷ []) ≡ fault_of UnknownLetter Loop 13)
+    × (cart_fault 2 (2 ∷ 0 ∷ 0 ∷ 0 ∷ 0 ∷ 1 ∷ 0 ∷ 1 ∷ 0 ∷ 7 ∷ 0 ∷ []) ≡ fault_of EmptyLoop Loop 5)
+    × (cart_fault 2 (1 ∷ 1 ∷ 0 ∷ 0 ∷ 0 ∷ 1 ∷ []) ≡ fault_of EmptyLoop Loop 6)
+    × (cart_fault 2 (1 ∷ 1 ∷ 0 ∷ 0 ∷ 0 ∷ 7 ∷ 7 ∷ []) ≡ fault_of CartLength Second 7)
 unfolding cart_fault layout_fault end_from shows_fault show_fault first_outside_of least
 letters = (refl, refl, refl, refl, refl, refl)

@@ -1,5 +1,6 @@
 -- Loading a cart: the order of refusals; loaded exactly when every show is accepted, else rejected with the index of the first that is not.
 -- Assumes nothing.
+use Rattle.std.specs.Prelude.{Result, Ok, Err}
 use mathlib.Core.Path.{◌≡◌, refl, ap, sym, subst, ◌∙◌}
 use mathlib.Core.Bool.{Bool, true, false, cond}
 use mathlib.Core.List.{List, [], ◌∷◌, ◌++◌}
@@ -11,7 +12,7 @@ use lib.Seq.{take-append_seam, drop-append_seam}
 use borrow.Author.Tests.{eq-eqb, ne_eqb, eqb-true, eqb-false}
 use Rattle.slices.specs.declared.Part.TheVariants.{First, Out}
 use Rattle.slices.specs.declared.Refusal.{Refusal}
-use Rattle.slices.specs.Refusals.{sound, fault, short, Result, given, unless}
+use Rattle.slices.specs.Refusals.{sound, fault, short, unless}
 use Rattle.slices.specs.Filling.{written}
 use Rattle.slices.proofs.Refusals.{passed, failed, gives, was-given}
 use Rattle.fdfa.specs.Family.{Fdfa, Words}
@@ -20,11 +21,11 @@ use Rattle.packed.specs.Layout.{letter_count, decode, Valid}
 use Rattle.packed.specs.Faults.{sheet_fault}
 use Rattle.packed.proofs.Soundness.{valid-sound}
 use Rattle.carts.specs.declared.Loading.{Loading}
-use Rattle.carts.specs.declared.Loading.TheVariants as loading
+use Rattle.carts.specs.declared.Loading.TheVariants.{Loaded, Rejected}
 use Rattle.carts.specs.Layout.{cart_bytes, Cartable, Lassos}
 use Rattle.carts.specs.Reading.{count_of, end_from, shows_of}
 use Rattle.carts.specs.Faults.{layout_fault, show_fault, cart_fault, load_fault}
-use Rattle.carts.specs.Loads.{first_rejected_of, Load, loaded, rejected, load_by, load_of, out_after, loading_says, CartLoaded, AllAccepted, FirstRejected}
+use Rattle.carts.specs.Loads.{first_rejected_of, load_by, load_of, out_after, CartLoaded, AllAccepted, FirstRejected}
 use Rattle.carts.specs.Loads as loads
 use Rattle.carts.proofs.Answers.{loaded-room}
 use Rattle.carts.proofs.Bytes.{bytes-shown}
@@ -106,12 +107,12 @@ module _ (F : Fdfa) where
 
 -- the answer that is given
 module _ (F : Fdfa) (ws : List Words) (size : ℕ) where
-  judged-all : AllAccepted F ws → load_by F ws size ≡ loaded size
-  judged-all a = ap (λ (t : Bool). cond t (loaded size) (rejected (first_rejected_of F ws))) (eq-eqb _ (length ws) (all-counted F a))
+  judged-all : AllAccepted F ws → load_by F ws size ≡ Loaded size
+  judged-all a = ap (λ (t : Bool). cond t (Loaded size) (Rejected (first_rejected_of F ws))) (eq-eqb _ (length ws) (all-counted F a))
 
-  judged-first : {i : ℕ} → FirstRejected F ws i → load_by F ws size ≡ rejected i
+  judged-first : {i : ℕ} → FirstRejected F ws i → load_by F ws size ≡ Rejected i
   judged-first {i} f =
-      ap (λ (t : Bool). cond t (loaded size) (rejected (first_rejected_of F ws))) (ne_eqb _ (length ws) some) ∙ ap rejected (is ∙ sym f.index)
+      ap (λ (t : Bool). cond t (Loaded size) (Rejected (first_rejected_of F ws))) (ne_eqb _ (length ws) some) ∙ ap Rejected (is ∙ sym f.index)
     where
       is : first_rejected_of F ws ≡ length f.before
       is = ap (first_rejected_of F) f.whole ∙ first_counted F f.show f.behind f.all f.rejects
@@ -119,17 +120,17 @@ module _ (F : Fdfa) (ws : List Words) (size : ℕ) where
       some : first_rejected_of F ws ≡ length ws → ⊥
       some e = omega (arith, is, e, ap length f.whole, length-append f.before (f.show ∷ f.behind))
 
-abbrev IsLoaded : Load → Type 0
-IsLoaded (loaded n) = Unit {0}
-IsLoaded (rejected i) = ⊥
+abbrev IsLoaded : Loading → Type 0
+IsLoaded (Loaded n) = Unit {0}
+IsLoaded (Rejected i) = ⊥
 
-never-loaded : {i n : ℕ} → rejected i ≡ loaded n → ⊥
+never-loaded : {i n : ℕ} → Rejected i ≡ Loaded n → ⊥
 never-loaded e = subst IsLoaded (sym e) tt
 
-loaded-was : {m n : ℕ} → loaded m ≡ loaded n → m ≡ n
+loaded-was : {m n : ℕ} → Loaded m ≡ Loaded n → m ≡ n
 loaded-was e = cc
 
-rejected-was : {m n : ℕ} → rejected m ≡ rejected n → m ≡ n
+rejected-was : {m n : ℕ} → Rejected m ≡ Rejected n → m ≡ n
 rejected-was e = cc
 
 module _ (sheet b : List ℕ) (room : ℕ) where
@@ -140,36 +141,36 @@ module _ (sheet b : List ℕ) (room : ℕ) where
   ws = shows_of b
 
   -- a cart that is not refused: loaded exactly when every show is accepted
-  pub all-loaded : load_fault sheet b room ≡ sound → AllAccepted F ws → load_of sheet b room ≡ given (loaded (length b))
-  all-loaded e a = sym (gives _ e) ∙ ap given (judged-all F ws (length b) a)
+  pub all-loaded : load_fault sheet b room ≡ sound → AllAccepted F ws → load_of sheet b room ≡ Ok (Loaded (length b))
+  all-loaded e a = sym (gives _ e) ∙ ap Ok (judged-all F ws (length b) a)
 
-  pub loaded-all : (n : ℕ) → load_of sheet b room ≡ given (loaded n) → (n ≡ length b) × AllAccepted F ws
+  pub loaded-all : (n : ℕ) → load_of sheet b room ≡ Ok (Loaded n) → (n ≡ length b) × AllAccepted F ws
   loaded-all n e = by (eqb (first_rejected_of F ws) (length ws)) refl
     where
-      is : load_by F ws (length b) ≡ loaded n
+      is : load_by F ws (length b) ≡ Loaded n
       is = sym (was-given (load_fault sheet b room) _ (sym e)).1
 
       by : (t : Bool) → eqb (first_rejected_of F ws) (length ws) ≡ t → (n ≡ length b) × AllAccepted F ws
       by true d = (
-        sym (loaded-was (sym (ap (λ (t : Bool). cond t (loaded (length b)) (rejected (first_rejected_of F ws))) d) ∙ is)),
+        sym (loaded-was (sym (ap (λ (t : Bool). cond t (Loaded (length b)) (Rejected (first_rejected_of F ws))) d) ∙ is)),
         counted-all F ws (eqb-true _ (length ws) d),
       )
-      by false d = absurd (never-loaded (sym (ap (λ (t : Bool). cond t (loaded (length b)) (rejected (first_rejected_of F ws))) d) ∙ is))
+      by false d = absurd (never-loaded (sym (ap (λ (t : Bool). cond t (Loaded (length b)) (Rejected (first_rejected_of F ws))) d) ∙ is))
 
   -- and else rejected with the index of the first that is not
-  pub first-is-rejected : load_fault sheet b room ≡ sound → (i : ℕ) → FirstRejected F ws i → load_of sheet b room ≡ given (rejected i)
-  first-is-rejected e i f = sym (gives _ e) ∙ ap given (judged-first F ws (length b) f)
+  pub first-is-rejected : load_fault sheet b room ≡ sound → (i : ℕ) → FirstRejected F ws i → load_of sheet b room ≡ Ok (Rejected i)
+  first-is-rejected e i f = sym (gives _ e) ∙ ap Ok (judged-first F ws (length b) f)
 
-  pub rejected-is-first : (i : ℕ) → load_of sheet b room ≡ given (rejected i) → FirstRejected F ws i
+  pub rejected-is-first : (i : ℕ) → load_of sheet b room ≡ Ok (Rejected i) → FirstRejected F ws i
   rejected-is-first i e = by (eqb (first_rejected_of F ws) (length ws)) refl
     where
-      is : load_by F ws (length b) ≡ rejected i
+      is : load_by F ws (length b) ≡ Rejected i
       is = sym (was-given (load_fault sheet b room) _ (sym e)).1
 
       by : (t : Bool) → eqb (first_rejected_of F ws) (length ws) ≡ t → FirstRejected F ws i
-      by true d = absurd (never-loaded (sym is ∙ ap (λ (t : Bool). cond t (loaded (length b)) (rejected (first_rejected_of F ws))) d))
+      by true d = absurd (never-loaded (sym is ∙ ap (λ (t : Bool). cond t (Loaded (length b)) (Rejected (first_rejected_of F ws))) d))
       by false d =
-          subst (FirstRejected F ws) (rejected-was (sym (ap (λ (t : Bool). cond t (loaded (length b)) (rejected (first_rejected_of F ws))) d) ∙ is))
+          subst (FirstRejected F ws) (rejected-was (sym (ap (λ (t : Bool). cond t (Loaded (length b)) (Rejected (first_rejected_of F ws))) d) ∙ is))
           (counted-first F ws (eqb-false _ (length ws) d))
 
 -- Of the cart of 1 to 64 lassos over the letters of a valid sheet only the room is judged, and then come the verdicts on these very lassos.
@@ -181,8 +182,8 @@ module _ (sheet : List ℕ) (valid : Valid sheet) (ws : List Words) (fits : Cart
   lassos-judged = λ i. unless (lassos-room i) (load_by (decode sheet) (bytes-shown ws fits i) (length (cart_bytes ws)))
 
 -- The out slice: where the cart is loaded its bytes are the first, and those behind them stay; else nothing changes.
-module _ (sheet b old out : List ℕ) (r : Loading) (l : CartLoaded sheet b old out r) where
-  pub loaded-cells : (n : ℕ) → r ≡ loading.Loaded n → (length b ≤ length old) × (take (length b) out ≡ b) × (drop (length b) out ≡ drop (length b) old)
+module _ (sheet b old out : List ℕ) (r : Result Loading Refusal) (l : CartLoaded sheet b old out r) where
+  pub loaded-cells : (n : ℕ) → r ≡ Ok (Loaded n) → (length b ≤ length old) × (take (length b) out ≡ b) × (drop (length b) out ≡ drop (length b) old)
   unfolding written
   loaded-cells n e = (
     loaded-room sheet b old r l.says e,
@@ -191,10 +192,10 @@ module _ (sheet b old out : List ℕ) (r : Loading) (l : CartLoaded sheet b old 
   )
     where
       cells : out ≡ b ++ drop (length b) old
-      cells = l.cells ∙ ap (λ (x : Result Load). out_after x b old) (sym l.says ∙ ap loading_says e)
+      cells = l.cells ∙ ap (λ (x : Result Loading Refusal). out_after x b old) (sym l.says ∙ e)
 
-  pub rejected-cells : (i : ℕ) → r ≡ loading.Rejected i → out ≡ old
-  rejected-cells i e = l.cells ∙ ap (λ (x : Result Load). out_after x b old) (sym l.says ∙ ap loading_says e)
+  pub rejected-cells : (i : ℕ) → r ≡ Ok (Rejected i) → out ≡ old
+  rejected-cells i e = l.cells ∙ ap (λ (x : Result Loading Refusal). out_after x b old) (sym l.says ∙ e)
 
-  pub refused-cells : (q : Refusal) → r ≡ loading.Refused q → out ≡ old
-  refused-cells q e = l.cells ∙ ap (λ (x : Result Load). out_after x b old) (sym l.says ∙ ap loading_says e)
+  pub refused-cells : (q : Refusal) → r ≡ Err q → out ≡ old
+  refused-cells q e = l.cells ∙ ap (λ (x : Result Loading Refusal). out_after x b old) (sym l.says ∙ e)

@@ -1,5 +1,7 @@
 -- A show by itself: which refusal it gets, from what the code knows where it meets it; it gets none exactly if it is a lasso.
 -- Assumes nothing.
+use Rattle.slices.specs.declared.Reason.{Reason}
+use Rattle.slices.specs.declared.Reason.TheVariants.{EmptyLoop, UnknownLetter}
 use mathlib.Core.Path.{◌≡◌, ap, sym, subst, ◌∙◌}
 use mathlib.Core.List.{List}
 use Prim.Native.Nat.{ℕ, ◌+◌, ◌≤◌, ◌<◌}
@@ -23,17 +25,17 @@ use Rattle.carts.specs.Faults.{show_fault}
 
 -- the code's tests
 module _ (s : ℕ) (b : List ℕ) (at : ℕ) {i : ℕ} (stops : i ≡ first_outside_of 0 s b (prefix_at at) (prefix_length b at)) where
-  pub bad-prefix : i < prefix_length b at → show_fault s b at ≡ fault_of 9 Opening (prefix_at at + i)
+  pub bad-prefix : i < prefix_length b at → show_fault s b at ≡ fault_of UnknownLetter Opening (prefix_at at + i)
   unfolding show_fault
   bad-prefix h = rw (← stops, lt-ltb _ _ h)
 
   module _ (fine : prefix_length b at ≤ i) where
-    pub no-period : period_length b at ≡ 0 → show_fault s b at ≡ fault_of 8 Loop (period_at b at)
+    pub no-period : period_length b at ≡ 0 → show_fault s b at ≡ fault_of EmptyLoop Loop (period_at b at)
     unfolding show_fault
     no-period e = rw (← stops, le-ltb _ _ fine, eq-eqb _ 0 e)
 
     module _ (some : period_length b at ≡ 0 → ⊥) {j : ℕ} (ends : j ≡ first_outside_of 0 s b (period_at b at) (period_length b at)) where
-      pub bad-period : j < period_length b at → show_fault s b at ≡ fault_of 9 Loop (period_at b at + j)
+      pub bad-period : j < period_length b at → show_fault s b at ≡ fault_of UnknownLetter Loop (period_at b at + j)
       unfolding show_fault
       bad-period h = rw (← stops, le-ltb _ _ fine, ne_eqb _ 0 some, ← ends, lt-ltb _ _ h)
 
@@ -49,15 +51,15 @@ module _ (b : List ℕ) (o m : ℕ) (within : o + m ≤ length b) where
   pub part-letter : (i : ℕ) → i < m → get_or (take m (drop o b)) i 0 ≡ get_or b (o + i) 0
   part-letter i h = get_or-take m (drop o b) i 0 h ∙ get_or-drop o b i 0
 
-  module _ (number : ℕ) (part : Part) (s : ℕ) where
-    scanned-over : scan number part 0 s b o m ≡ sound → Over s (take m (drop o b))
+  module _ (reason : Reason) (part : Part) (s : ℕ) where
+    scanned-over : scan reason part 0 s b o m ≡ sound → Over s (take m (drop o b))
     scanned-over e =
         letters-over s (take m (drop o b))
-        (λ i h. let l : i < m = omega (arith, part_length) in subst (λ (x : ℕ). x < s) (sym (part-letter i l)) (scan-sound number part 0 s b o m e i l).1)
+        (λ i h. let l : i < m = omega (arith, part_length) in subst (λ (x : ℕ). x < s) (sym (part-letter i l)) (scan-sound reason part 0 s b o m e i l).1)
 
-    over-scanned : Over s (take m (drop o b)) → scan number part 0 s b o m ≡ sound
+    over-scanned : Over s (take m (drop o b)) → scan reason part 0 s b o m ≡ sound
     over-scanned w =
-        sound-scan number part 0 s b o m
+        sound-scan reason part 0 s b o m
         (λ i h. (omega arith, subst (λ (x : ℕ). x < s) (part-letter i h) (over-letter w i (omega (arith, part_length)))))
 
 -- of a show that lies within the cart
@@ -68,19 +70,19 @@ module _ (s : ℕ) (b : List ℕ) (at : ℕ) (within : end_at b at ≤ length b)
   pub show-lasso : show_fault s b at ≡ sound → Lasso s (show_at b at).prefix (show_at b at).period
   unfolding show_fault
   show-lasso e = record {
-    prefix = scanned-over b (prefix_at at) (prefix_length b at) opening-within 9 Opening s (then-left t1 (t2 then t3) e);
-    period = scanned-over b (period_at b at) (period_length b at) within 9 Loop s (then-right t2 t3 later);
-    loops = λ d. eqb-false (period_length b at) 0 (when-sound _ 8 Loop _ (then-left t2 t3 later)) (sym (part_length b (period_at b at) (period_length b at) within) ∙ ap length d);
+    prefix = scanned-over b (prefix_at at) (prefix_length b at) opening-within UnknownLetter Opening s (then-left t1 (t2 then t3) e);
+    period = scanned-over b (period_at b at) (period_length b at) within UnknownLetter Loop s (then-right t2 t3 later);
+    loops = λ d. eqb-false (period_length b at) 0 (when-sound _ EmptyLoop Loop _ (then-left t2 t3 later)) (sym (part_length b (period_at b at) (period_length b at) within) ∙ ap length d);
   }
     where
       t1 : Fault
-      t1 = scan 9 Opening 0 s b (prefix_at at) (prefix_length b at)
+      t1 = scan UnknownLetter Opening 0 s b (prefix_at at) (prefix_length b at)
 
       t2 : Fault
-      t2 = when (eqb (period_length b at) 0) 8 Loop (period_at b at)
+      t2 = when (eqb (period_length b at) 0) EmptyLoop Loop (period_at b at)
 
       t3 : Fault
-      t3 = scan 9 Loop 0 s b (period_at b at) (period_length b at)
+      t3 = scan UnknownLetter Loop 0 s b (period_at b at) (period_length b at)
 
       later : t2 then t3 ≡ sound
       later = then-right t1 (t2 then t3) e
@@ -88,9 +90,9 @@ module _ (s : ℕ) (b : List ℕ) (at : ℕ) (within : end_at b at ≤ length b)
   pub lasso-show : Lasso s (show_at b at).prefix (show_at b at).period → show_fault s b at ≡ sound
   unfolding show_fault
   lasso-show l =
-      passed _ (over-scanned b (prefix_at at) (prefix_length b at) opening-within 9 Opening s l.prefix)
-      ∙ (passed _ (when-passes 8 Loop (period_at b at) (ne_eqb (period_length b at) 0 some))
-      ∙ over-scanned b (period_at b at) (period_length b at) within 9 Loop s l.period)
+      passed _ (over-scanned b (prefix_at at) (prefix_length b at) opening-within UnknownLetter Opening s l.prefix)
+      ∙ (passed _ (when-passes EmptyLoop Loop (period_at b at) (ne_eqb (period_length b at) 0 some))
+      ∙ over-scanned b (period_at b at) (period_length b at) within UnknownLetter Loop s l.period)
     where
       some : period_length b at ≡ 0 → ⊥
       some e = some_letters (show_at b at).period l.loops (part_length b (period_at b at) (period_length b at) within ∙ e)

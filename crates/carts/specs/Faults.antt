@@ -1,7 +1,9 @@
 -- What loading a cart is refused for, for any bytes as sheet and cart. Assumes nothing.
-use Rattle.std.specs.Prelude.{not, List, ℕ, zero, suc, eqb, length}
+use Rattle.slices.specs.declared.Reason.TheVariants.{EmptyLoop, UnknownLetter, CartCount, CartLength}
+use Rattle.slices.specs.declared.Refusal.{Refusal}
+use Rattle.std.specs.Prelude.{not, List, ℕ, zero, suc, eqb, length, Result}
 use Rattle.slices.specs.declared.Part.TheVariants.{First, Second, Opening, Loop, Out}
-use Rattle.slices.specs.Refusals.{Fault, sound, ◌then◌, when, short, Result, unless}
+use Rattle.slices.specs.Refusals.{Fault, sound, ◌then◌, when, short, unless}
 use Rattle.slices.specs.Scans.{outside, scan}
 use Rattle.fdfa.specs.Family.{Words}
 use Rattle.packed.specs.Layout.{letter_count}
@@ -9,24 +11,25 @@ use Rattle.packed.specs.Faults.{sheet_fault}
 use Rattle.carts.specs.Reading.{count_of, prefix_length, period_length, prefix_at, period_at, end_at, end_from}
 use Rattle.carts.specs.Reading.{shows_of}
 
--- 28: no byte at all; 27: no show or more than 64; 28: the last show does not end where the cart does. Past the cart's
--- end bytes count as 0, so a show whose header or scenes are cut ends past it, and so do all behind it.
+-- No byte at all; no show or more than 64; the last show does not end where the cart does. Past the cart's end bytes
+-- count as 0, so a show whose header or scenes are cut ends past it, and so do all behind it.
 unfoldable pub layout_fault : List ℕ → Fault
 layout_fault b =
-    when (eqb (length b) 0) 28 Second 0
-    then when (outside 1 65 (count_of b)) 27 Second 0
-    then when (not (eqb (end_from b 1 (count_of b)) (length b))) 28 Second (length b)
+    when (eqb (length b) 0) CartLength Second 0
+    then when (outside 1 65 (count_of b)) CartCount Second 0
+    then when (not (eqb (end_from b 1 (count_of b)) (length b))) CartLength Second (length b)
 
 -- The shows of a cart, or the refusal of its layout.
-abbrev pub cart_in : List ℕ → Result (List Words)
+abbrev pub cart_in : List ℕ → Result (List Words) Refusal
 cart_in b = unless (layout_fault b) (shows_of b)
 
--- What the show that begins at a place is refused for by itself, over s letters: 9, 8, 9, at places of the cart.
+-- What the show that begins at a place is refused for by itself, over s letters: a letter of its prefix, no period, a
+-- letter of its period, at places of the cart.
 unfoldable pub show_fault : ℕ → List ℕ → ℕ → Fault
 show_fault s b at =
-    scan 9 Opening 0 s b (prefix_at at) (prefix_length b at)
-    then when (eqb (period_length b at) 0) 8 Loop (period_at b at)
-    then scan 9 Loop 0 s b (period_at b at) (period_length b at)
+    scan UnknownLetter Opening 0 s b (prefix_at at) (prefix_length b at)
+    then when (eqb (period_length b at) 0) EmptyLoop Loop (period_at b at)
+    then scan UnknownLetter Loop 0 s b (period_at b at) (period_length b at)
 
 -- So many shows from a place on, one after the other.
 unfoldable pub shows_fault : ℕ → List ℕ → ℕ → ℕ → Fault

@@ -1,12 +1,13 @@
 -- What loading a cart says and leaves in the out slice, for any bytes. Assumes nothing.
-use Rattle.std.specs.Prelude.{◌≡◌, true, false, cond, List, [], ◌∷◌, ◌++◌, ℕ, suc, eqb, length}
-use Rattle.slices.specs.Refusals.{Result, given, refused, unless}
+use Rattle.slices.specs.declared.Refusal.{Refusal}
+use Rattle.std.specs.Prelude.{◌≡◌, true, false, cond, List, [], ◌∷◌, ◌++◌, ℕ, suc, eqb, length, Result, Ok, Err}
+use Rattle.slices.specs.Refusals.{unless}
 use Rattle.slices.specs.Filling.{written}
 use Rattle.fdfa.specs.Family.{Fdfa, Words}
 use Rattle.fdfa.specs.Acceptance.{accepts}
 use Rattle.packed.specs.Layout.{decode}
 use Rattle.carts.specs.declared.Loading.{Loading}
-use Rattle.carts.specs.declared.Loading.TheVariants as loading
+use Rattle.carts.specs.declared.Loading.TheVariants.{Loaded, Rejected}
 use Rattle.carts.specs.Reading.{shows_of}
 use Rattle.carts.specs.Faults.{load_fault}
 
@@ -15,34 +16,23 @@ unfoldable pub first_rejected_of : Fdfa → List Words → ℕ
 first_rejected_of F [] = 0
 first_rejected_of F (w ∷ ws) = cond (accepts F w.prefix w.period) (suc (first_rejected_of F ws)) 0
 
--- A cart is loaded, with its length, or rejected, with the index of a show.
-pub data Load : Type 0 where
-  loaded : ℕ → Load
-  rejected : ℕ → Load
-
--- It is loaded where every show is accepted.
-abbrev pub load_by : Fdfa → List Words → ℕ → Load
-load_by F ws size = cond (eqb (first_rejected_of F ws) (length ws)) (loaded size) (rejected (first_rejected_of F ws))
+-- A cart is loaded, with its length, where every show is accepted, else rejected, with the index of a show.
+abbrev pub load_by : Fdfa → List Words → ℕ → Loading
+load_by F ws size = cond (eqb (first_rejected_of F ws) (length ws)) (Loaded size) (Rejected (first_rejected_of F ws))
 
 -- The answer of the call, or the refusal.
-abbrev pub load_of : List ℕ → List ℕ → ℕ → Result Load
+abbrev pub load_of : List ℕ → List ℕ → ℕ → Result Loading Refusal
 load_of sheet b room = unless (load_fault sheet b room) (load_by (decode sheet) (shows_of b) (length b))
 
 -- The out slice afterwards: the cart's bytes at its start where it is loaded, else as it was.
-abbrev pub out_after : Result Load → List ℕ → List ℕ → List ℕ
-out_after (given (loaded n)) b old = written b old
-out_after (given (rejected i)) b old = old
-out_after (refused r) b old = old
-
--- The answer of the code, by cases.
-abbrev pub loading_says : Loading → Result Load
-loading_says (loading.Loaded n) = given (loaded n)
-loading_says (loading.Rejected i) = given (rejected i)
-loading_says (loading.Refused r) = refused r
+abbrev pub out_after : Result Loading Refusal → List ℕ → List ℕ → List ℕ
+out_after (Ok (Loaded n)) b old = written b old
+out_after (Ok (Rejected i)) b old = old
+out_after (Err r) b old = old
 
 -- What the call says and leaves in the out slice, for every sheet, cart and out slice.
-pub record CartLoaded (sheet b old out : List ℕ) (r : Loading) : Type 0 where
-  pub says : loading_says r ≡ load_of sheet b (length old)
+pub record CartLoaded (sheet b old out : List ℕ) (r : Result Loading Refusal) : Type 0 where
+  pub says : r ≡ load_of sheet b (length old)
   pub cells : out ≡ out_after (load_of sheet b (length old)) b old
 
 -- Every show is accepted.

@@ -18,4 +18,4 @@ begins o p Seconds = 0
 -- A refusal whose place counts from the start of its part, counted from the cart's first byte.
 abbrev pub counted : ℕ → ℕ → Fault → Fault
 counted o p sound = sound
-counted o p (fault r) = fault_of r.number r.part (begins o p r.part + r.place)
+counted o p (fault r) = fault_of r.reason r.part (begins o p r.part + r.place)

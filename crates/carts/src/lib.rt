@@ -5,20 +5,17 @@ mod judging; // judging.rt: a cart, judged by itself
 mod verdicts; // verdicts.rt: the verdicts on its shows, and the cart in the out slice
 mod places; // places.rt: where the shows of a cart lie
 
-use slices::Refusal;
 pub use verdicts::{judge, load};
 
-// What loading a cart answers: how many bytes are loaded, or the index of the first show that is rejected, from 0; or
-// the refusal.
-#[derive(Clone, Copy)]
+// What loading a cart answers: how many bytes are loaded, or the index of the first show that is rejected, from 0.
+#[derive(Clone, Copy, Debug, PartialEq, Eq)]
 pub enum Loading {
     Loaded(usize),
     Rejected(usize),
-    Refused(Refusal),
 }
 
 // Where a show lies: where its prefix begins, where its period does, and where it ends.
-#[derive(Clone, Copy)]
+#[derive(Clone, Copy, Debug, PartialEq, Eq)]
 struct Span {
     prefix: usize,
     period: usize,

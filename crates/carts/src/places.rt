@@ -4,14 +4,13 @@ ghost use Rattle.carts.specs.Reading.{length_at};
 ghost use Rattle.carts.specs.Steps.{span_of};
 
 use crate::Span;
-use slices::wide;
 
 // A length in the header of a show.
 fn length_at(cart: &[u8], at: usize) -> usize
     requires { at + 1 < length cart.now }
     ensures { (result ≡ length_at cart.now at) × (result < 65536) }
 {
-    wide(cart[at]) + wide(cart[at + 1]) * 256
+    usize::from(u16::from_le_bytes([cart[at], cart[at + 1]]))
 }
 
 // The show whose header begins at a place.

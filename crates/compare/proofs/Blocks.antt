@@ -1,21 +1,17 @@
 -- The blocks of what the comparison prints, out of the texts that they are stored by. Assumes nothing.
-use mathlib.Core.Path.{◌≡◌, ap, sym, subst}
-use mathlib.Core.List.{List}
+use mathlib.Core.List.{List, ◌++◌}
 use Prim.Native.Nat.{ℕ, ◌+◌, ◌≤◌, ◌<◌}
 use native.Mathlib.Omega.{arith}
-use lib.ListN.{length, take}
-use Rattle.slices.specs.declared.Refusal.{Refusal}
+use lib.ListN.{length}
 use Rattle.standing.specs.declared.Standing.{Standing}
 use Rattle.inclusion.specs.declared.Comparison.{Comparison}
-use Rattle.inclusion.specs.declared.Outcome.{Outcome}
-use Rattle.inclusion.specs.declared.Outcome.TheVariants.{Absent, Found, Refused}
 use Rattle.numbers.specs.Digits.{field}
 use Rattle.numbers.specs.Storing.{Stored}
 use Rattle.numbers.proofs.Stores.{stored-then}
 use Rattle.lasso_text.specs.Text.{lasso_text_of}
-use Rattle.console.specs.Printed.{Shows, refusal_text_of}
-use Rattle.console.proofs.Printed.{shows-as, field-few, stored-shows}
-use Rattle.compare.specs.Text.{verdict_title, contained, missing, verdict_block, standing_title, standing_line, standing_block, comparison_text_of, Lies}
+use Rattle.console.specs.Printed.{Shows}
+use Rattle.console.proofs.Printed.{field-few, stored-shows}
+use Rattle.compare.specs.Text.{verdict_title, contained, missing, verdict_block, standing_title, standing_line, standing_block}
 
 -- the first block, field by field
 pub verdict-stored : {old o₁ o₂ o₃ o₄ new : List ℕ} {at p₁ p₂ p₃ p₄ r : ℕ} (verdict : List ℕ) (z : Comparison) → length verdict ≤ 10
@@ -38,25 +34,15 @@ pub standing-stored : {old o₁ o₂ new : List ℕ} {at p₁ p₂ r : ℕ} (z :
 standing-stored z a b c =
     ((stored-then _ _ (stored-then _ _ a b.0) c.0), omega (arith, a.next, b.1, c.1))
 
--- what lies within the slices, of an answer that is known
-pub lies-found : {answer : Outcome} {z : Comparison} (o p : ℕ) → answer ≡ Found z → Lies answer o p → (z.prefix ≤ o) × (z.period ≤ p)
-lies-found o p e l = subst (λ (x : Outcome). Lies x o p) e l
+-- all of the text, where nothing is refused
+pub absent-shown : {old mid new : List ℕ} {q r : ℕ} (z : Comparison) → 237776 ≤ length old
+    → Stored old 0 (verdict_block contained z) mid q × (q ≤ 0 + 102) → Stored mid q (standing_block z) new r × (r ≤ q + 95) → Shows (verdict_block contained z ++ standing_block z) old new r
+absent-shown z h a b =
+    stored-shows {room = 237776} (stored-then (verdict_block contained z) (standing_block z) a.0 b.0) (omega (arith, a.1, b.1)) h
 
--- all of the text, answer by answer
-pub absent-shown : {answer : Outcome} {z : Comparison} {old mid new : List ℕ} {q r : ℕ} (o p : List ℕ) → answer ≡ Absent z → 237776 ≤ length old
-    → Stored old 0 (verdict_block contained z) mid q × (q ≤ 0 + 102) → Stored mid q (standing_block z) new r × (r ≤ q + 95) → Shows (comparison_text_of answer o p) old new r
-absent-shown {z = z} o p e h a b =
-    shows-as (ap (λ (x : Outcome). comparison_text_of x o p) (sym e))
-    (stored-shows {room = 237776} (stored-then (verdict_block contained z) (standing_block z) a.0 b.0) (omega (arith, a.1, b.1)) h)
-
-pub found-shown : {answer : Outcome} {z : Comparison} {old o₁ o₂ new : List ℕ} {q₁ q₂ r : ℕ} (o p : List ℕ) → answer ≡ Found z → 237776 ≤ length old
-    → length (lasso_text_of (take z.prefix o) (take z.period p)) ≤ 237579 → Stored old 0 (verdict_block missing z) o₁ q₁ × (q₁ ≤ 0 + 102)
-    → Stored o₁ q₁ (lasso_text_of (take z.prefix o) (take z.period p)) o₂ q₂ → Stored o₂ q₂ (standing_block z) new r × (r ≤ q₂ + 95) → Shows (comparison_text_of answer o p) old new r
-found-shown {z = z} o p e h k a b c =
-    let show = lasso_text_of (take z.prefix o) (take z.period p) in
-    let s = (stored-then _ (standing_block z) (stored-then (verdict_block missing z) show a.0 b) c.0) in
-    shows-as (ap (λ (x : Outcome). comparison_text_of x o p) (sym e)) (stored-shows {room = 237776} s (omega (arith, a.1, b.next, c.1)) h)
-
-pub refused-shown : {answer : Outcome} {x : Refusal} {old new : List ℕ} {r : ℕ} (o p : List ℕ) → answer ≡ Refused x → Shows (refusal_text_of x) old new r
-    → Shows (comparison_text_of answer o p) old new r
-refused-shown o p e s = shows-as (ap (λ (y : Outcome). comparison_text_of y o p) (sym e)) s
+pub found-shown : {old o₁ o₂ new : List ℕ} {q₁ q₂ r : ℕ} (z : Comparison) (u v : List ℕ) → 237776 ≤ length old → length (lasso_text_of u v) ≤ 237579
+    → Stored old 0 (verdict_block missing z) o₁ q₁ × (q₁ ≤ 0 + 102) → Stored o₁ q₁ (lasso_text_of u v) o₂ q₂ → Stored o₂ q₂ (standing_block z) new r × (r ≤ q₂ + 95)
+    → Shows (verdict_block missing z ++ lasso_text_of u v ++ standing_block z) old new r
+found-shown z u v h k a b c =
+    let s = stored-then _ (standing_block z) (stored-then (verdict_block missing z) (lasso_text_of u v) a.0 b) c.0 in
+    stored-shows {room = 237776} s (omega (arith, a.1, b.next, c.1)) h

@@ -1,5 +1,7 @@
 -- The second block that is printed is the text of the counter-show: the reader of lassos takes it, with the room that the verdict program has
 -- too, and reads that show. Assumes nothing.
+use Rattle.slices.specs.declared.Reason.TheVariants.{TooLittleRoom, FoundTooLong}
+use Rattle.std.specs.Prelude.{Ok}
 use mathlib.Core.Path.{◌≡◌, ap, sym, ◌∙◌}
 use mathlib.Core.Bool.{Bool, cond}
 use mathlib.Core.List.{List, ◌++◌}
@@ -10,7 +12,7 @@ use lib.ListN.{length}
 use borrow.Author.Tests.{ltb-false, le-ltb}
 use Rattle.slices.specs.declared.Part.{Part}
 use Rattle.slices.specs.declared.Part.TheVariants.{Opening, Loop}
-use Rattle.slices.specs.Refusals.{Fault, sound, ◌then◌, when, given}
+use Rattle.slices.specs.Refusals.{Fault, sound, ◌then◌, when}
 use Rattle.slices.proofs.Refusals.{passed, then-left, then-right, when-sound, when-passes}
 use Rattle.fdfa.specs.Enumeration.{Witness, lasso}
 use Rattle.fdfa.specs.Inclusion as model
@@ -27,7 +29,7 @@ use Rattle.compare_files.specs.Decided.{room, compared, decided}
 use Rattle.compare.specs.Text.{contained, missing, verdict_block, standing_block, answer_text, program_text}
 use Rattle.compare_files.proofs.Laws.{Were, decided-were}
 
-module _ (any : Bool) (b c : List ℕ) {C : model.Comparison} {u v : List ℕ} (told : decided any b c ≡ given C) (found : C.witness ≡ lasso u v) where
+module _ (any : Bool) (b c : List ℕ) {C : model.Comparison} {u v : List ℕ} (told : decided any b c ≡ Ok C) (found : C.witness ≡ lasso u v) where
   pub printed : program_text any b c ≡ verdict_block missing (numbers_of C) ++ lasso_text_of u v ++ standing_block (numbers_of C)
   printed =
       ap answer_text told
@@ -45,15 +47,15 @@ module _ (any : Bool) (b c : List ℕ) {C : model.Comparison} {u v : List ℕ} (
 
   fits : (length u ≤ 4096) × (length v ≤ 4096)
   fits = (
-    ltb-false 4096 (length u) (when-sound (ltb 4096 (length u)) 23 Opening (length u) (then-left one two rooms)),
-    ltb-false 4096 (length v) (when-sound (ltb 4096 (length v)) 23 Loop (length v) (then-right one two rooms)),
+    ltb-false 4096 (length u) (when-sound (ltb 4096 (length u)) FoundTooLong Opening (length u) (then-left one two rooms)),
+    ltb-false 4096 (length v) (when-sound (ltb 4096 (length v)) FoundTooLong Loop (length v) (then-right one two rooms)),
   )
     where
       one : Fault
-      one = when (ltb 4096 (length u)) 23 Opening (length u)
+      one = when (ltb 4096 (length u)) FoundTooLong Opening (length u)
 
       two : Fault
-      two = when (ltb 4096 (length v)) 23 Loop (length v)
+      two = when (ltb 4096 (length v)) FoundTooLong Loop (length v)
 
       rooms : one then two ≡ sound
       rooms = sym (ap (λ (w : Witness). room_fault w (calls.lasso room)) shown) ∙ then-right (compare_start were.first were.second 8192) _ were.fine
@@ -61,6 +63,6 @@ module _ (any : Bool) (b c : List ℕ) {C : model.Comparison} {u v : List ℕ} (
   pub read_back : (part : Part) → (read_fault (words_of 32 part (lasso_text_of u v)) 4096 4096 ≡ sound) × (words_in (words_of 32 part (lasso_text_of u v)) ≡ record { prefix = u; period = v })
   read_back part = (
     text-read 32 part (omega arith) u v readable 4096 4096
-        ∙ (passed _ (when-passes 21 Opening (length u) (le-ltb 4096 (length u) fits.0)) ∙ when-passes 21 Loop (length v) (le-ltb 4096 (length v) fits.1)),
+        ∙ (passed _ (when-passes TooLittleRoom Opening (length u) (le-ltb 4096 (length u) fits.0)) ∙ when-passes TooLittleRoom Loop (length v) (le-ltb 4096 (length v) fits.1)),
     text-lasso 32 part (omega arith) u v readable,
   )

@@ -1,5 +1,5 @@
 -- What is said on standard error, out of the texts that it is stored by. Assumes nothing.
-use mathlib.Core.Path.{◌≡◌, ap, sym, ◌∙◌}
+use mathlib.Core.Path.{◌≡◌, ap, sym}
 use mathlib.Core.Bool.{Bool, true, false, cond}
 use mathlib.Core.List.{List, ◌++◌}
 use Prim.Native.Nat.{ℕ, ◌+◌, ◌*◌, ◌≤◌, ◌<◌}
@@ -7,7 +7,6 @@ use native.Mathlib.Omega.{arith}
 use lib.Dec.{eqb}
 use lib.ListN.{length, get_or}
 use borrow.Author.Tests.{eq-eqb, ne_eqb}
-use Rattle.slices.specs.declared.Refusal.{Refusal}
 use Rattle.slices.specs.Tables.{rows}
 use Rattle.slices.specs.Texts.{bytes}
 use Rattle.numbers.specs.Digits.{field}
@@ -15,12 +14,8 @@ use Rattle.numbers.specs.Storing.{Stored}
 use Rattle.numbers.proofs.Stores.{stored-then, stored-as, stored_row}
 use Rattle.standing.specs.declared.Standing.{Standing}
 use Rattle.inclusion.specs.declared.Comparison.{Comparison}
-use Rattle.inclusion.specs.declared.Outcome.{Outcome}
-use Rattle.inclusion.specs.declared.Outcome.TheVariants.{Absent, Found, Refused}
-use Rattle.console.specs.Printed.{Shows}
-use Rattle.wording.specs.Words.{File, refusal_words_of}
-use Rattle.console.proofs.Printed.{field-few, shows-none, shows-as}
-use Rattle.compare.specs.Said.{ending, scenes_of, scene_line, standing_words, names_text, missing_words, outcome_words, asked_words, outcome_said}
+use Rattle.console.proofs.Printed.{field-few}
+use Rattle.compare.specs.Said.{ending, scenes_of, scene_line, standing_words, names_text, missing_words}
 
 -- the byte after a scene
 pub ends-line : (m i : ℕ) → i + 1 ≡ m → 10 ≡ ending m i
@@ -80,27 +75,3 @@ missing-stored one two z u v a b c d e = (
   (stored-then _ _ (stored-then _ _ (stored-then _ _ (stored-then _ _ a.0 b.0) c.0) d.0) e.0),
   omega (arith, a.1, b.1, c.1, d.1, e.1),
 )
-
--- what was decided, where it is asked for
-module _ (explain : Bool) (answer : Outcome) (one two o p : List ℕ) where
-  pub unasked-shown : (old : List ℕ) → explain ≡ false → Shows (asked_words explain one two o p answer) old old 0
-  unasked-shown old e = shows-as (ap (λ (b : Bool). asked_words b one two o p answer) (sym e)) (shows-none old)
-
-  pub asked-shown : {old new : List ℕ} {n : ℕ} (r : Outcome) → explain ≡ true → answer ≡ r → Shows (outcome_words one two o p r) old new n → Shows (asked_words explain one two o p answer) old new n
-  asked-shown r e d s = shows-as (λ i. asked_words (sym e i) one two o p (sym d i)) s
-
--- whatever was answered
-module _ (explain : Bool) (answer : Outcome) (one two : File) (o p : List ℕ) {old new : List ℕ} {n : ℕ} where
-  pub said-absent : {z : Comparison} → answer ≡ Absent z → Shows (asked_words explain one.name two.name o p answer) old new n → Shows (outcome_said explain one two o p answer) old new n
-  said-absent e s = shows-as (ap (asked_words explain one.name two.name o p) e ∙ ap (outcome_said explain one two o p) (sym e)) s
-
-  pub said-found : {z : Comparison} → answer ≡ Found z → Shows (asked_words explain one.name two.name o p answer) old new n → Shows (outcome_said explain one two o p answer) old new n
-  said-found e s = shows-as (ap (asked_words explain one.name two.name o p) e ∙ ap (outcome_said explain one two o p) (sym e)) s
-
-  pub said-refused : {q : Refusal} {x y : Bool} → answer ≡ Refused q → x ≡ one.lined → y ≡ two.lined
-      → Shows (refusal_words_of (bytes "compare") (record { name = one.name; held = one.held; lined = x }) (record { name = two.name; held = two.held; lined = y }) q) old new n
-      → Shows (outcome_said explain one two o p answer) old new n
-  said-refused {q} e d f s =
-      shows-as
-      ((λ i. refusal_words_of (bytes "compare") (record { name = one.name; held = one.held; lined = d i }) (record { name = two.name; held = two.held; lined = f i }) q)
-      ∙ ap (outcome_said explain one two o p) (sym e)) s

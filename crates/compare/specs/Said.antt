@@ -1,8 +1,8 @@
 -- What is said on standard error, for people: a refusal in words and, where it is asked for, what was decided.
 -- Assumes nothing.
-use Rattle.std.specs.Prelude.{Bool, cond, List, [], ◌++◌, ℕ, ◌+◌, eqb, length, get_or, take}
+use Rattle.slices.specs.declared.Refusal.{Refusal}
+use Rattle.std.specs.Prelude.{Bool, cond, List, [], ◌++◌, ℕ, ◌+◌, eqb, length, get_or, take, Result, Ok, Err}
 use Prim.Native.Char.{code}
-use Rattle.slices.specs.Refusals.{Result, given, refused}
 use Rattle.slices.specs.Tables.{rows}
 use Rattle.slices.specs.Texts.{bytes}
 use Rattle.fdfa.specs.Inclusion as model
@@ -11,7 +11,7 @@ use Rattle.standing.specs.declared.Standing.{Standing}
 use Rattle.lasso_search.specs.Lassos.{prefix_of, period_of}
 use Rattle.inclusion.specs.declared.Comparison.{Comparison}
 use Rattle.inclusion.specs.declared.Outcome.{Outcome}
-use Rattle.inclusion.specs.declared.Outcome.TheVariants.{Absent, Found, Refused}
+use Rattle.inclusion.specs.declared.Outcome.TheVariants.{Absent, Found}
 use Rattle.inclusion.specs.Outcomes.{numbers_of, is_absent}
 use Rattle.sheet_forms.specs.Forms.{form_in_value, is_text_of}
 use Rattle.wording.specs.Words.{File, refusal_words_of}
@@ -54,9 +54,9 @@ decided_words one two C =
     cond (is_absent C.witness) (contained_words one two)
     (missing_words one two (numbers_of C) (prefix_of C.witness) (period_of C.witness))
 
-abbrev pub said_of : Bool → File → File → Result model.Comparison → List ℕ
-said_of explain one two (given C) = cond explain (decided_words one.name two.name C) []
-said_of explain one two (refused r) = refusal_words_of (bytes "compare") one two r
+abbrev pub said_of : Bool → File → File → Result model.Comparison Refusal → List ℕ
+said_of explain one two (Ok C) = cond explain (decided_words one.name two.name C) []
+said_of explain one two (Err r) = refusal_words_of (bytes "compare") one two r
 
 -- A file as it is named, with its bytes; whether it has lines is told by its form.
 abbrev pub file_in : Bool → List ℕ → List ℕ → File
@@ -65,19 +65,15 @@ file_in any name b = record { name = name; held = b; lined = is_text_of (form_in
 abbrev pub message_text : Bool → Bool → List ℕ → List ℕ → List ℕ → List ℕ → List ℕ
 message_text any explain one b two c = said_of explain (file_in any one b) (file_in any two c) (decided any b c)
 
--- Of the inner function, for the answer of the code: the show is what was written to the slices.
+-- Of inner functions, for the answer of the code: the show is what was written to the slices.
 abbrev pub outcome_words : List ℕ → List ℕ → List ℕ → List ℕ → Outcome → List ℕ
 outcome_words one two opening period (Absent z) = contained_words one two
 outcome_words one two opening period (Found z) =
     missing_words one two z (take z.prefix opening) (take z.period period)
-outcome_words one two opening period (Refused r) = []
 
 abbrev pub asked_words : Bool → List ℕ → List ℕ → List ℕ → List ℕ → Outcome → List ℕ
-asked_words explain one two opening period r = cond explain (outcome_words one two opening period r) []
+asked_words explain one two opening period x = cond explain (outcome_words one two opening period x) []
 
-abbrev pub outcome_said : Bool → File → File → List ℕ → List ℕ → Outcome → List ℕ
-outcome_said explain one two opening period (Absent z) =
-    asked_words explain one.name two.name opening period (Absent z)
-outcome_said explain one two opening period (Found z) =
-    asked_words explain one.name two.name opening period (Found z)
-outcome_said explain one two opening period (Refused r) = refusal_words_of (bytes "compare") one two r
+abbrev pub outcome_said : Bool → File → File → List ℕ → List ℕ → Result Outcome Refusal → List ℕ
+outcome_said explain one two opening period (Ok x) = asked_words explain one.name two.name opening period x
+outcome_said explain one two opening period (Err r) = refusal_words_of (bytes "compare") one two r

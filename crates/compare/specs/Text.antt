@@ -1,7 +1,7 @@
 -- What the comparison prints for each answer (01, and the last block 02), block by block. Assumes nothing.
-use Rattle.std.specs.Prelude.{Bool, cond, List, ◌++◌, ℕ, ◌≤◌, take}
+use Rattle.slices.specs.declared.Refusal.{Refusal}
+use Rattle.std.specs.Prelude.{Bool, cond, List, ◌++◌, ℕ, ◌≤◌, take, Result, Ok, Err}
 use Prim.Native.Char.{code}
-use Rattle.slices.specs.Refusals.{Result, given, refused}
 use Rattle.slices.specs.Texts.{bytes}
 use Rattle.fdfa.specs.Inclusion as model
 use Rattle.numbers.specs.Digits.{field}
@@ -11,7 +11,7 @@ use Rattle.standing.specs.declared.Standing.{Standing}
 use Rattle.lasso_search.specs.Lassos.{prefix_of, period_of}
 use Rattle.inclusion.specs.declared.Comparison.{Comparison}
 use Rattle.inclusion.specs.declared.Outcome.{Outcome}
-use Rattle.inclusion.specs.declared.Outcome.TheVariants.{Absent, Found, Refused}
+use Rattle.inclusion.specs.declared.Outcome.TheVariants.{Absent, Found}
 use Rattle.inclusion.specs.Outcomes.{numbers_of, is_absent}
 use Rattle.compare_files.specs.Decided.{decided}
 
@@ -42,26 +42,29 @@ abbrev pub standing_block : Comparison → List ℕ
 standing_block z = standing_title ++ standing_line z.first ++ standing_line z.second
 
 -- The first block, for a counter-show its text, and the last; or the refusal.
-abbrev pub answer_text : Result model.Comparison → List ℕ
-answer_text (given C) =
+abbrev pub answer_text : Result model.Comparison Refusal → List ℕ
+answer_text (Ok C) =
     cond (is_absent C.witness) (verdict_block contained (numbers_of C) ++ standing_block (numbers_of C))
     (verdict_block missing (numbers_of C)
     ++ lasso_text_of (prefix_of C.witness) (period_of C.witness) ++ standing_block (numbers_of C))
-answer_text (refused r) = refusal_text_of r
+answer_text (Err r) = refusal_text_of r
 
 -- What is printed for the bytes that came of two files, in any form or packed only.
 abbrev pub program_text : Bool → List ℕ → List ℕ → List ℕ
 program_text any b c = answer_text (decided any b c)
 
 -- Of the inner function, for the answer of the code: the show is what was written to the slices.
-abbrev pub comparison_text_of : Outcome → List ℕ → List ℕ → List ℕ
-comparison_text_of (Absent z) opening period = verdict_block contained z ++ standing_block z
-comparison_text_of (Found z) opening period =
+abbrev pub comparison_text_of : Result Outcome Refusal → List ℕ → List ℕ → List ℕ
+comparison_text_of (Ok (Absent z)) opening period = verdict_block contained z ++ standing_block z
+comparison_text_of (Ok (Found z)) opening period =
     verdict_block missing z ++ lasso_text_of (take z.prefix opening) (take z.period period) ++ standing_block z
-comparison_text_of (Refused r) opening period = refusal_text_of r
+comparison_text_of (Err r) opening period = refusal_text_of r
 
--- Of the inner function: a show that was found lies within slices of these lengths.
+-- Of inner functions: a show that was found lies within slices of these lengths.
 abbrev pub Lies : Outcome → ℕ → ℕ → Type 0
 Lies (Absent z) o p = Unit {0}
 Lies (Found z) o p = (z.prefix ≤ o) × (z.period ≤ p)
-Lies (Refused r) o p = Unit {0}
+
+abbrev pub AnswerLies : Result Outcome Refusal → ℕ → ℕ → Type 0
+AnswerLies (Ok x) o p = Lies x o p
+AnswerLies (Err r) o p = Unit {0}

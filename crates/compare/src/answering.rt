@@ -1,7 +1,7 @@
 // What the program prints, and what it says on standard error.
 ghost use Rattle.std.specs.Prelude.{◌≡◌, ◌≤◌, length};
 ghost use Rattle.console.specs.Printed.{Shows};
-ghost use Rattle.compare.specs.Text.{Lies, program_text};
+ghost use Rattle.compare.specs.Text.{AnswerLies, program_text};
 ghost use Rattle.compare.specs.Said.{file_in, outcome_said, message_text};
 
 use crate::saying::put_decided;
@@ -9,6 +9,7 @@ use crate::text::comparison_text;
 use compare_files::decide;
 use inclusion::Outcome;
 use sheet_forms::{form_in, is_text};
+use slices::Refusal;
 use wording::refusal_words;
 
 const SCENES: usize = 4096;
@@ -24,7 +25,7 @@ pub struct Printed {
 fn put_message(
     any: bool,
     explain: bool,
-    answer: Outcome,
+    answer: Result<Outcome, Refusal>,
     opening: &[u8],
     period: &[u8],
     one: &[u8],
@@ -33,7 +34,7 @@ fn put_message(
     second: &[u8],
     out: &mut [u8],
 ) -> usize
-    requires { Lies answer (length opening.now) (length period.now) × (length opening.now ≤ 4096) ×
+    requires { AnswerLies answer (length opening.now) (length period.now) × (length opening.now ≤ 4096) ×
         (length period.now ≤ 4096) × (length one.now ≤ 4096) × (length two.now ≤ 4096) ×
         (196608 ≤ length out.old) }
     ensures { Shows
@@ -42,13 +43,12 @@ fn put_message(
         out.old out.new result }
 {
     match answer {
-        Outcome::Refused(r) => {
+        Err(r) => {
             let lined = is_text(form_in(any, first));
             let lined2 = is_text(form_in(any, second));
             refusal_words(b"compare", one, first, lined, two, second, lined2, r, out)
         }
-        Outcome::Absent(_) => put_decided(explain, answer, opening, period, one, two, out),
-        Outcome::Found(_) => put_decided(explain, answer, opening, period, one, two, out),
+        Ok(outcome) => put_decided(explain, outcome, opening, period, one, two, out),
     }
 }
 

@@ -71,18 +71,13 @@ fn compare_named(rt: &HostRuntime, explain: bool, i: usize, j: usize) {
 }
 
 fn main(rt: HostRuntime) {
-    let asked = console::arguments(&rt);
-    if asked.usage {
-        usage(&rt);
-        return;
+    match console::arguments(&rt) {
+        Some(asked) if asked.names == 0 => {
+            compare(&rt, false, asked.explain, b"first.sheet", b"second.sheet");
+        }
+        Some(asked) if asked.names == 2 => {
+            compare_named(&rt, asked.explain, asked.first, asked.second);
+        }
+        _ => usage(&rt),
     }
-    if asked.names == 0 {
-        compare(&rt, false, asked.explain, b"first.sheet", b"second.sheet");
-        return;
-    }
-    if asked.names == 2 {
-        compare_named(&rt, asked.explain, asked.first, asked.second);
-        return;
-    }
-    usage(&rt);
 }

@@ -10,7 +10,6 @@ ghost use Rattle.compare.specs.Said.{contained_words, missing_words, asked_words
 use format::put_literal;
 use inclusion::{Comparison, Outcome, Standing};
 use numbers::put_field;
-use slices::wide;
 
 // Room for what is said: two names of 4,096 bytes, twice, at most 21 for each of 8,192 scenes, and some words.
 pub const SAID: usize = 196608;
@@ -30,10 +29,8 @@ fn put_scenes(word: &[u8], out: &mut [u8], at: usize) -> usize
         (result ≤ at + 86016) }
 {
     let mut p = at;
-    let mut i = 0;
-    while i < word.len() {
-        p = put_field(wide(word[i]), ending_of(word.len(), i), out, p);
-        i += 1;
+    for (i, &scene) in word.iter().enumerate() {
+        p = put_field(usize::from(scene), ending_of(word.len(), i), out, p);
     }
     p
 }
@@ -118,30 +115,29 @@ fn put_missing(
 // What was decided, where it is asked for.
 pub fn put_decided(
     explain: bool,
-    answer: Outcome,
+    outcome: Outcome,
     opening: &[u8],
     period: &[u8],
     one: &[u8],
     two: &[u8],
     out: &mut [u8],
 ) -> usize
-    requires { Lies answer (length opening.now) (length period.now) × (length opening.now ≤ 4096) ×
+    requires { Lies outcome (length opening.now) (length period.now) × (length opening.now ≤ 4096) ×
         (length period.now ≤ 4096) × (length one.now ≤ 4096) × (length two.now ≤ 4096) ×
         (196608 ≤ length out.old) }
     ensures { Shows
-        (asked_words explain one.now two.now opening.now period.now answer)
+        (asked_words explain one.now two.now opening.now period.now outcome)
         out.old out.new result }
 {
     if !explain {
         return 0;
     }
-    match answer {
+    match outcome {
         Outcome::Absent(_) => put_contained(one, two, out),
         Outcome::Found(z) => {
             let u = z.prefix;
             let v = z.period;
             put_missing(z, &opening[..u], &period[..v], one, two, out)
         }
-        Outcome::Refused(_) => 0,
     }
 }

@@ -2,12 +2,13 @@
 ghost use Rattle.std.specs.Prelude.{◌+◌, ◌≤◌, length};
 ghost use Rattle.numbers.specs.Storing.{Stored};
 ghost use Rattle.console.specs.Printed.{Shows};
-ghost use Rattle.compare.specs.Text.{verdict_block, standing_line, standing_block, comparison_text_of, Lies};
+ghost use Rattle.compare.specs.Text.{verdict_block, standing_line, standing_block, comparison_text_of, AnswerLies};
 
 use format::put_literal;
 use inclusion::{Comparison, Outcome, Standing};
 use lasso_text::put_lasso;
 use numbers::put_field;
+use slices::Refusal;
 
 // Room for what is printed: the first block has at most 102 bytes, the second 11 and at most 29 for each of 8,192
 // scenes, the last at most 95.
@@ -47,23 +48,28 @@ fn put_standings(z: Comparison, out: &mut [u8], at: usize) -> usize
 }
 
 // All of it, for every answer.
-pub fn comparison_text(answer: Outcome, opening: &[u8], period: &[u8], out: &mut [u8]) -> usize
-    requires { Lies answer (length opening.now) (length period.now) × (length opening.now ≤ 4096) ×
+pub fn comparison_text(
+    answer: Result<Outcome, Refusal>,
+    opening: &[u8],
+    period: &[u8],
+    out: &mut [u8],
+) -> usize
+    requires { AnswerLies answer (length opening.now) (length period.now) × (length opening.now ≤ 4096) ×
         (length period.now ≤ 4096) × (237776 ≤ length out.old) }
     ensures { Shows (comparison_text_of answer opening.now period.now) out.old out.new result }
 {
     match answer {
-        Outcome::Absent(z) => {
+        Ok(Outcome::Absent(z)) => {
             let at = put_verdict(b"contained ", z, out, 0);
             put_standings(z, out, at)
         }
-        Outcome::Found(z) => {
+        Ok(Outcome::Found(z)) => {
             let at = put_verdict(b"missing ", z, out, 0);
             let u = z.prefix;
             let v = z.period;
             let shown = put_lasso(&opening[..u], &period[..v], out, at);
             put_standings(z, out, shown)
         }
-        Outcome::Refused(r) => console::refusal_text(r, out),
+        Err(r) => console::refusal_text(r, out),
     }
 }

@@ -2,22 +2,24 @@
 // has.
 #![tactic(auto)]
 
-ghost use Rattle.std.specs.Prelude.{◌≡◌, length};
-ghost use Rattle.slices.specs.Refusals.{given};
+ghost use Rattle.std.specs.Prelude.{◌≡◌, length, Ok};
 ghost use Rattle.compare_files.specs.Decided.{compared_in, of_sheets, first_sheet, second_sheet, decided, Decides};
 
-use console::Length;
 use inclusion::Outcome;
 use sheet_forms::{SHEET, form_in, pack};
-use slices::{Part, Written};
+use slices::{Part, Refusal};
 
 const CELLS: usize = 8192;
 
 // Two packed sheets.
-fn compare_packed(first: &[u8], second: &[u8], opening: &mut [u8], period: &mut [u8]) -> Outcome
+fn compare_packed(
+    first: &[u8],
+    second: &[u8],
+    opening: &mut [u8],
+    period: &mut [u8],
+) -> Result<Outcome, Refusal>
     requires { (length opening.old ≡ 4096) × (length period.old ≡ 4096) }
-    ensures { Decides (compared_in first.now second.now) opening.new
-        period.new result }
+    ensures { Decides (compared_in first.now second.now) opening.new period.new result }
 {
     let mut work = [0u64; CELLS];
     inclusion::compare(first, second, opening, period, &mut work)
@@ -30,17 +32,13 @@ fn compare_second(
     second: &[u8],
     opening: &mut [u8],
     period: &mut [u8],
-) -> Outcome
+) -> Result<Outcome, Refusal>
     requires { (length opening.old ≡ 4096) × (length period.old ≡ 4096) }
-    ensures { Decides (of_sheets (given first.now) (second_sheet any second.now))
-        opening.new period.new result }
+    ensures { Decides (of_sheets (Ok first.now) (second_sheet any second.now)) opening.new period.new result }
 {
     let mut sheet = [0u8; SHEET];
-    let answer = pack(form_in(any, second), second, Part::Second, &mut sheet);
-    match answer {
-        Written::Refused(r) => Outcome::Refused(r),
-        Written::Filled(n) => compare_packed(first, &sheet[..n], opening, period),
-    }
+    let n = pack(form_in(any, second), second, Part::Second, &mut sheet)?;
+    compare_packed(first, &sheet[..n], opening, period)
 }
 
 // The sheets of two files.
@@ -50,18 +48,14 @@ fn compare_first(
     second: &[u8],
     opening: &mut [u8],
     period: &mut [u8],
-) -> Outcome
+) -> Result<Outcome, Refusal>
     requires { (length opening.old ≡ 4096) × (length period.old ≡ 4096) }
-    ensures { Decides
-        (of_sheets (first_sheet any first.now) (second_sheet any second.now))
+    ensures { Decides (of_sheets (first_sheet any first.now) (second_sheet any second.now))
         opening.new period.new result }
 {
     let mut sheet = [0u8; SHEET];
-    let answer = pack(form_in(any, first), first, Part::First, &mut sheet);
-    match answer {
-        Written::Refused(r) => Outcome::Refused(r),
-        Written::Filled(n) => compare_second(&sheet[..n], any, second, opening, period),
-    }
+    let n = pack(form_in(any, first), first, Part::First, &mut sheet)?;
+    compare_second(&sheet[..n], any, second, opening, period)
 }
 
 // Two files, of which so many bytes came.
@@ -71,14 +65,10 @@ pub fn decide(
     second: &[u8],
     opening: &mut [u8],
     period: &mut [u8],
-) -> Outcome
+) -> Result<Outcome, Refusal>
     requires { (length opening.old ≡ 4096) × (length period.old ≡ 4096) }
-    ensures { Decides (decided any first.now second.now) opening.new
-        period.new result }
+    ensures { Decides (decided any first.now second.now) opening.new period.new result }
 {
-    let length = console::check_lengths(first.len(), second.len());
-    match length {
-        Length::Refused(r) => Outcome::Refused(r),
-        Length::Good => compare_first(any, first, second, opening, period),
-    }
+    console::check_lengths(first.len(), second.len())?;
+    compare_first(any, first, second, opening, period)
 }

@@ -7,6 +7,7 @@ use lib.ListN.{length, take, drop, length-append}
 use Rattle.slices.specs.declared.Part.{Part}
 use Rattle.slices.specs.declared.Part.TheVariants.{First, Second, Opening, Loop, Out, Work, Cursor, Seconds}
 use Rattle.slices.specs.declared.Refusal.{Refusal}
+use Rattle.slices.specs.Refusals.{number_of}
 use Rattle.slices.proofs.Filling.{Begun, begun_first, begun_more, lent_length, written_none}
 use Rattle.numbers.specs.Digits.{field}
 use Rattle.numbers.specs.Storing.{Stored}
@@ -70,7 +71,7 @@ part-shown q e s = (shows-as (ap part_field (sym e)) s, omega (arith, s.says, pa
 pub four : (a b c d : List ℕ) → ((a ++ b) ++ c) ++ d ≡ a ++ b ++ c ++ d
 four a b c d = simp append_assoc
 
-pub refusal-joined : (r : Refusal) {w : ℕ} → w ≡ r.number → ((refusal_title ++ field w 32) ++ part_field r.part) ++ field r.place 10 ≡ refusal_text_of r
+pub refusal-joined : (r : Refusal) {w : ℕ} → w ≡ number_of r.reason → ((refusal_title ++ field w 32) ++ part_field r.part) ++ field r.place 10 ≡ refusal_text_of r
 refusal-joined r {w} e =
     ap (λ (n : ℕ). ((refusal_title ++ field n 32) ++ part_field r.part) ++ field r.place 10) e
-    ∙ four refusal_title (field r.number 32) (part_field r.part) (field r.place 10)
+    ∙ four refusal_title (field (number_of r.reason) 32) (part_field r.part) (field r.place 10)

@@ -4,6 +4,7 @@ use Prim.Native.Char.{code}
 use Rattle.slices.specs.declared.Part.{Part}
 use Rattle.slices.specs.declared.Part.TheVariants.{First, Second, Opening, Loop, Out, Work, Cursor, Seconds}
 use Rattle.slices.specs.declared.Refusal.{Refusal}
+use Rattle.slices.specs.Refusals.{number_of}
 use Rattle.slices.specs.Filling.{written}
 use Rattle.slices.specs.Texts.{bytes}
 use Rattle.numbers.specs.Digits.{field}
@@ -28,7 +29,8 @@ refusal_title = bytes "refused part place\n"
 
 -- The line of names, then the number, the part by its name, and the place.
 abbrev pub refusal_text_of : Refusal → List ℕ
-refusal_text_of r = refusal_title ++ field r.number (code " ") ++ part_field r.part ++ field r.place (code "\n")
+refusal_text_of r =
+    refusal_title ++ field (number_of r.reason) (code " ") ++ part_field r.part ++ field r.place (code "\n")
 
 -- A call filled the start of a slice with a text, and answers how long the text is.
 pub record Shows (text old out : List ℕ) (n : ℕ) : Type 0 where

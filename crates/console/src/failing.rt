@@ -37,14 +37,9 @@ fn before_number(text: &[u8]) -> usize
     ensures { IsPrefixLen result text.now }
 {
     let number: &[u8] = b" (os error ";
-    let mut n = 0;
-    while n < text.len() {
-        if text[n..].starts_with(number) {
-            return n;
-        }
-        n += 1;
-    }
-    n
+    text.windows(number.len())
+        .position(|w| w == number)
+        .unwrap_or(text.len())
 }
 
 // Says what failed and why, in the system's words.
@@ -55,10 +50,7 @@ pub fn fail(rt: &HostRuntime, what: &[u8], error: Error) {
     };
     let _ = write!(text, "{error}");
     let bytes = &text.bytes[..];
-    let mut n = before_number(bytes);
-    if text.length < n {
-        n = text.length;
-    }
+    let n = before_number(bytes).min(text.length);
     say(rt, what);
     say(rt, b": ");
     say(rt, &bytes[..n]);

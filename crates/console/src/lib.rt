@@ -1,10 +1,11 @@
-// What the programs share: files read whole, refusal 25, what the arguments ask for, and what is printed.
+// What the programs share: files read whole, files that are too long, what the arguments ask for, and what is printed.
 #![tactic(auto)]
 
+ghost use Rattle.slices.specs.Refusals.{fault_in};
 ghost use Rattle.std.specs.Prelude.{◌≡◌};
-ghost use Rattle.console.specs.Files.{length_fault, lengths_fault, says_of};
+ghost use Rattle.console.specs.Files.{length_fault, lengths_fault};
 
-use slices::{Part, Refusal, refuse};
+use slices::{Part, Reason, Refusal, refuse};
 
 mod failing; // failing.rt: what failed, on standard error
 mod files; // files.rt: a file's bytes in a lent slice
@@ -25,7 +26,7 @@ pub const ROOM: usize = LONGEST + 1;
 pub const NAME: usize = 4096;
 
 // What an argument is: a name, the end of the options, `--explain`, or another option.
-#[derive(Clone, Copy)]
+#[derive(Clone, Copy, Debug, PartialEq, Eq)]
 enum Word {
     Name,
     End,
@@ -33,39 +34,29 @@ enum Word {
     Other,
 }
 
-// What the arguments ask for: the usage, an explanation, and how many names there are; the last two by their place.
-#[derive(Clone, Copy)]
+// What the arguments ask for: an explanation, and how many names there are; the last two by their place.
+#[derive(Clone, Copy, Debug, PartialEq, Eq)]
 pub struct Asked {
-    pub usage: bool,
     pub explain: bool,
     pub names: usize,
     pub first: usize,
     pub second: usize,
 }
 
-// Whether a file is short enough, or refusal 25.
-#[derive(Clone, Copy)]
-pub enum Length {
-    Good,
-    Refused(Refusal),
-}
-
 // Judges a file of which `length` bytes came.
-pub fn check_length(length: usize, part: Part) -> Length
-    ensures { says_of result ≡ length_fault part length }
+pub fn check_length(length: usize, part: Part) -> Result<(), Refusal>
+    ensures { fault_in result ≡ length_fault part length }
 {
     if LONGEST < length {
-        return Length::Refused(refuse(25, part, LONGEST));
+        return Err(refuse(Reason::FileTooLong, part, LONGEST));
     }
-    Length::Good
+    Ok(())
 }
 
 // Judges two files, in reading order.
-pub fn check_lengths(first: usize, second: usize) -> Length
-    ensures { says_of result ≡ lengths_fault first second }
+pub fn check_lengths(first: usize, second: usize) -> Result<(), Refusal>
+    ensures { fault_in result ≡ lengths_fault first second }
 {
-    if LONGEST < first {
-        return check_length(first, Part::First);
-    }
+    check_length(first, Part::First)?;
     check_length(second, Part::Second)
 }

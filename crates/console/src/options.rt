@@ -36,7 +36,7 @@ fn read(rt: &HostRuntime, i: usize, word: &mut [u8]) -> usize
 pub fn is_end(rt: &HostRuntime, i: usize) -> bool {
     let mut word = [0u8; NAME];
     let n = read(rt, i, &mut word);
-    n == 2 && word[0] == b'-' && word[1] == b'-'
+    &word[..n] == b"--".as_slice()
 }
 
 // What an argument is. An option has a `-` and more, and stands before `--`. One that is too long to be read is a name.
@@ -49,31 +49,27 @@ fn word_at(rt: &HostRuntime, i: usize, ended: bool) -> Word {
     if buffer[0] != b'-' {
         return Word::Name;
     }
-    let end: &[u8] = b"--";
-    let explain: &[u8] = b"--explain";
     let word = &buffer[..n];
-    if word == end {
+    if word == b"--".as_slice() {
         return Word::End;
     }
-    if word == explain {
+    if word == b"--explain".as_slice() {
         return Word::Explain;
     }
     Word::Other
 }
 
-// What the arguments ask for. Any option that is not known, `-h` and `--help` among them, asks for the usage.
-pub fn arguments(rt: &HostRuntime) -> Asked {
+// What the arguments ask for: nothing where an option is not known, `-h` and `--help` among them, which asks for the
+// usage.
+pub fn arguments(rt: &HostRuntime) -> Option<Asked> {
     let count = arg_count(rt);
-    let mut usage = false;
     let mut explain = false;
     let mut ended = false;
     let mut names = 0;
     let mut first = 0;
     let mut second = 0;
-    let mut i = 1;
-    while i < count {
-        let word = word_at(rt, i, ended);
-        match word {
+    for i in 1..count {
+        match word_at(rt, i, ended) {
             Word::Name => {
                 names += 1;
                 first = second;
@@ -81,17 +77,15 @@ pub fn arguments(rt: &HostRuntime) -> Asked {
             }
             Word::End => ended = true,
             Word::Explain => explain = true,
-            Word::Other => usage = true,
+            Word::Other => return None,
         }
-        i += 1;
     }
-    Asked {
-        usage,
+    Some(Asked {
         explain,
         names,
         first,
         second,
-    }
+    })
 }
 
 // The name at a place of the arguments. Of one that is too long as much as there is room for, which no file has.

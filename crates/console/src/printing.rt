@@ -5,7 +5,7 @@ ghost use Rattle.console.specs.Printed.{part_field, refusal_text_of, Shows};
 
 use crate::failing::fail;
 use numbers::put_field;
-use slices::{Part, Refusal, copy, wide};
+use slices::{Part, Refusal, copy};
 
 // Room for a refusal: its line of names, 19 bytes, two numbers and a name.
 const REFUSAL: usize = 80;
@@ -63,7 +63,7 @@ pub fn refusal_text(r: Refusal, out: &mut [u8]) -> usize
     ensures { Shows (refusal_text_of r) out.old out.new result }
 {
     let mut at = put(b"refused part place\n", out);
-    at += put_number(wide(r.number), b' ', &mut out[at..]);
+    at += put_number(usize::from(r.reason.number()), b' ', &mut out[at..]);
     let part = r.part;
     at += put_part(part, &mut out[at..]);
     at += put_number(r.place, b'\n', &mut out[at..]);

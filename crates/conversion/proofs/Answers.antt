@@ -1,12 +1,12 @@
 -- What a call filled lies within its slices. What was read of a text, and its seconds as bytes; seconds as cells. Assumes nothing.
+use Rattle.std.specs.Prelude.{Result, Ok, Err, IfOk}
 use mathlib.Core.Path.{◌≡◌, ap, sym, ◌∙◌}
 use mathlib.Core.Bool.{Bool}
 use mathlib.Core.List.{List}
 use Prim.Native.Nat.{ℕ, ◌*◌, ◌/◌, ◌≤◌}
 use lib.ListN.{length, get_or, take}
 use Rattle.slices.specs.declared.Refusal.{Refusal}
-use Rattle.slices.specs.declared.Written.{Written}
-use Rattle.slices.specs.Refusals.{Fault, sound, fault, Result, given}
+use Rattle.slices.specs.Refusals.{Fault, sound, fault}
 use Rattle.slices.specs.Filling.{written, filled, Fills}
 use Rattle.slices.specs.Halves.{halves_of, half_bytes_of}
 use Rattle.slices.proofs.Refusals.{refuses, gives, was-given}
@@ -14,30 +14,28 @@ use Rattle.slices.proofs.Filling.{written-front, filled-front}
 use Rattle.slices.proofs.Halved.{length-half_bytes_of, length-halves_of}
 use Rattle.blocks.specs.Text.{timed, text_of}
 use Rattle.notation.specs.declared.Levelled.{Levelled}
-use Rattle.notation.specs.declared.Levelled.TheVariants as levelled
 use Rattle.notation.specs.Reading as notation
 use Rattle.notation.specs.Reading.{Sheet, sheet_in, said, read_fault, SheetRead}
 use Rattle.notation.specs.Writing.{write_fault}
 use Rattle.notation.proofs.Taken.{read-refused, read-given, cells_count, cells-front}
 use Rattle.conversion.specs.declared.Packed.{Packed}
-use Rattle.conversion.specs.declared.Packed.TheVariants.{Filled, Refused}
-use Rattle.conversion.specs.Forms.{Told, seconds_bytes, told_of, packed_says, pack_fault, Packs, level_of_value, Unpacks, Within}
+use Rattle.conversion.specs.Forms.{seconds_bytes, told_of, pack_fault, Packs, level_of_value, Unpacks}
 
-pub fills-within : {f : Fault} {new old out : List ℕ} {r : Written} → Fills f new old out r → Within r out
-fills-within {f} {new} {old} h n e =
-    let g = was-given f (length new) (sym e ∙ h.says) in (filled-front new old g.0 g.1 h.cells).0
+pub fills-within : {f : Fault} {new old out : List ℕ} {r : Result ℕ Refusal} → Fills f new old out r → IfOk r (λ n. n ≤ length out)
+fills-within {r = Ok n} h = let g = was-given _ _ h.says in (filled-front _ _ g.0 g.1 h.cells).0
+fills-within {r = Err q} h = tt
 
-pub packs-within : {x : Result Sheet} {sheet seconds sheet' seconds' : List ℕ} {r : Packed} {level n m : ℕ}
-    → Packs x sheet seconds sheet' seconds' r → r ≡ Filled level n m → (n ≤ length sheet') × (m ≤ length seconds')
+pub packs-within : {x : Result Sheet Refusal} {sheet seconds sheet' seconds' : List ℕ} {r : Result Packed Refusal} {p : Packed}
+    → Packs x sheet seconds sheet' seconds' r → r ≡ Ok p → (p.sheet ≤ length sheet') × (p.seconds ≤ length seconds')
 packs-within {x} {sheet} {seconds} h e =
-    let g = was-given (pack_fault x (length sheet)) (told_of (said x)) (sym (ap packed_says e) ∙ h.says) in (
-      (filled-front (said x).bytes sheet g.0 (ap (λ (t : Told). t.sheet) g.1) h.cells).0,
-      (filled-front (seconds_bytes (said x)) seconds g.0 (ap (λ (t : Told). t.seconds) g.1) h.times).0,
+    let g = was-given (pack_fault x (length sheet)) (told_of (said x)) (sym e ∙ h.says) in (
+      (filled-front (said x).bytes sheet g.0 (ap (λ (t : Packed). t.sheet) g.1) h.cells).0,
+      (filled-front (seconds_bytes (said x)) seconds g.0 (ap (λ (t : Packed). t.seconds) g.1) h.times).0,
     )
 
 -- a text of which nothing was read, with 32 cells for the seconds: the slices are as they were
-pub packs-refused : {x : Result Sheet} {sheet cells sheet' cells' : List ℕ} {r : Levelled} {q : Refusal} (seconds : List ℕ)
-    → SheetRead x sheet cells sheet' cells' r → length cells ≡ 32 → r ≡ levelled.Refused q → Packs x sheet seconds sheet' seconds (Refused q)
+pub packs-refused : {x : Result Sheet Refusal} {sheet cells sheet' cells' : List ℕ} {r : Result Levelled Refusal} {q : Refusal} (seconds : List ℕ)
+    → SheetRead x sheet cells sheet' cells' r → length cells ≡ 32 → r ≡ Err q → Packs x sheet seconds sheet' seconds (Err q)
 packs-refused {x} {sheet} {cells} {q = q} seconds h many e = record {
   says = refuses (told_of (said x)) was;
   cells = h.sheet ∙ ap (λ (k : ℕ). filled (read_fault x (length sheet) k) (said x).bytes sheet) many;
@@ -48,16 +46,16 @@ packs-refused {x} {sheet} {cells} {q = q} seconds h many e = record {
     was = ap (read_fault x (length sheet)) (sym many) ∙ read-refused h e
 
 -- a text that was read, with 32 cells for the seconds
-module _ (t : List ℕ) {sheet cells sheet' cells' : List ℕ} {r : Levelled} {level n : ℕ} (h : SheetRead (sheet_in t) sheet cells sheet' cells' r) (many : length cells ≡ 32) (e : r ≡ levelled.Filled level n) where
-  nothing : (read_fault (sheet_in t) (length sheet) (length cells) ≡ sound) × (record { level = level; filled = n } ≡ notation.told_of (said (sheet_in t)))
+module _ (t : List ℕ) {sheet cells sheet' cells' : List ℕ} {r : Result Levelled Refusal} {p : Levelled} (h : SheetRead (sheet_in t) sheet cells sheet' cells' r) (many : length cells ≡ 32) (e : r ≡ Ok p) where
+  nothing : (read_fault (sheet_in t) (length sheet) (length cells) ≡ sound) × (p ≡ notation.told_of (said (sheet_in t)))
   nothing = read-given h e
 
   -- by the first byte of the packed sheet, the cells that have seconds
-  module _ {first m : ℕ} (f : first ≡ get_or sheet' 0 0) (k : m ≡ timed level first) where
-    pub packs-filled : {seconds seconds' : List ℕ} → seconds' ≡ written (half_bytes_of (take m cells')) seconds → Packs (sheet_in t) sheet seconds sheet' seconds' (Filled level n (m * 2))
+  module _ {first m : ℕ} (f : first ≡ get_or sheet' 0 0) (k : m ≡ timed p.level first) where
+    pub packs-filled : {seconds seconds' : List ℕ} → seconds' ≡ written (half_bytes_of (take m cells')) seconds → Packs (sheet_in t) sheet seconds sheet' seconds' (Ok (record { level = p.level; sheet = p.filled; seconds = m * 2 }))
     packs-filled {seconds} d = record {
       says =
-          (λ i. given (record { level = (nothing.1 i).level; sheet = (nothing.1 i).filled; seconds = bytes_count i }))
+          (λ i. Ok (record { level = (nothing.1 i).level; sheet = (nothing.1 i).filled; seconds = bytes_count i }))
           ∙ gives (told_of (said (sheet_in t))) was;
       cells = h.sheet ∙ ap (λ (c : ℕ). filled (read_fault (sheet_in t) (length sheet) c) (said (sheet_in t)).bytes sheet) many;
       times =
@@ -76,6 +74,6 @@ module _ (t : List ℕ) {sheet cells sheet' cells' : List ℕ} {r : Levelled} {l
 pub cells-of : (bytes old : List ℕ) {cells : List ℕ} (k : ℕ) → k ≡ length bytes / 2 → cells ≡ written (halves_of bytes) old → take k cells ≡ halves_of bytes
 cells-of bytes old k e d = ap (take k) d ∙ written-front (halves_of bytes) old (length-halves_of bytes ∙ sym e)
 
-pub unpacks : (named : Bool) (b seconds old : List ℕ) {level : ℕ} {w out : List ℕ} {r : Written} → level ≡ level_of_value named → w ≡ halves_of seconds
+pub unpacks : (named : Bool) (b seconds old : List ℕ) {level : ℕ} {w out : List ℕ} {r : Result ℕ Refusal} → level ≡ level_of_value named → w ≡ halves_of seconds
     → Fills (write_fault level w b (length old)) (text_of level w b) old out r → Unpacks named b seconds old out r
 unpacks named b seconds old e d h = rw (e, d) at h

@@ -9,26 +9,26 @@ mod packing; // packing.rt: from text to packed sheet and seconds
 mod telling; // telling.rt: a refusal, printed and in words
 mod unpacking; // unpacking.rt: from packed sheet and seconds to text, from the text of an automaton to packed sheet
 
-use console::{Length, NAME};
+use console::{Asked, NAME};
 use packing::save_packed;
-use slices::{Part, Refusal};
+use slices::Part;
 use telling::tell;
 use unpacking::{save_imported, save_unpacked};
 
 // From text to packed sheet, or back; from the text of an automaton to the packed sheet of its family.
-#[derive(Clone, Copy)]
+#[derive(Clone, Copy, Debug, PartialEq, Eq)]
 pub enum Way {
     Pack,
     Unpack,
     Import,
 }
 
-// What packing a text answers: its level, and how many bytes of the packed sheet and of the seconds are filled; or the
-// refusal.
-#[derive(Clone, Copy)]
-enum Packed {
-    Filled(usize, usize, usize),
-    Refused(Refusal),
+// The level of a text, and how many bytes its packed sheet and its seconds have.
+#[derive(Clone, Copy, Debug, PartialEq, Eq)]
+struct Packed {
+    level: usize,
+    sheet: usize,
+    seconds: usize,
 }
 
 // The longest packed sheet: 32 scenes, 32 places, 32 places in each loop automaton.
@@ -56,11 +56,7 @@ fn target_at(rt: &HostRuntime, way: Way, i: usize, name: &mut [u8]) -> Option<us
 
 // Whether a way makes the third file that is named.
 fn makes_third(way: Way) -> bool {
-    match way {
-        Way::Pack => true,
-        Way::Unpack => false,
-        Way::Import => false,
-    }
+    way == Way::Pack
 }
 
 // Makes what the bytes of a source are turned into. A third file is one of seconds.
@@ -84,10 +80,9 @@ fn convert(
 fn judge(rt: &HostRuntime, way: Way, source: &[u8], target: &[u8], named: bool, third: &[u8]) {
     let mut bytes = [0u8; console::ROOM];
     let n = console::load(rt, source, &mut bytes);
-    let length = console::check_length(n, Part::First);
-    match length {
-        Length::Refused(r) => tell(rt, way, source, &bytes[..n], third, b"", r),
-        Length::Good => convert(rt, way, source, &bytes[..n], target, named, third),
+    match console::check_length(n, Part::First) {
+        Err(r) => tell(rt, way, source, &bytes[..n], third, b"", r),
+        Ok(()) => convert(rt, way, source, &bytes[..n], target, named, third),
     }
 }
 
@@ -98,9 +93,8 @@ fn name_third(rt: &HostRuntime, way: Way, source: &[u8], target: &[u8], named: b
         return;
     }
     let mut third = [0u8; NAME];
-    match third_at(rt, way, i, &mut third) {
-        Some(n) => judge(rt, way, source, target, true, &third[..n]),
-        None => {}
+    if let Some(n) = third_at(rt, way, i, &mut third) {
+        judge(rt, way, source, target, true, &third[..n]);
     }
 }
 
@@ -121,9 +115,8 @@ fn name_files(rt: &HostRuntime, way: Way, first: usize, second: usize, named: bo
     let mut source = [0u8; NAME];
     let n = console::name_at(rt, first, &mut source);
     let mut target = [0u8; NAME];
-    match target_at(rt, way, second, &mut target) {
-        Some(m) => name_third(rt, way, &source[..n], &target[..m], named, last),
-        None => {}
+    if let Some(m) = target_at(rt, way, second, &mut target) {
+        name_third(rt, way, &source[..n], &target[..m], named, last);
     }
 }
 
@@ -132,17 +125,20 @@ fn first_name(rt: &HostRuntime) -> usize {
     if console::is_end(rt, 1) { 2 } else { 1 }
 }
 
-// Turns the file that is named first into the one that is named next, or prints the refusal. A third name is that of
-// the seconds: a target of packing, a source of unpacking.
-pub fn run(rt: &HostRuntime, way: Way, usage: &[u8]) {
-    let asked = console::arguments(rt);
-    if asked.usage || asked.explain || !takes(way, asked.names) {
-        console::say(rt, usage);
-        return;
-    }
+// Goes on with the files that the arguments name, two or three.
+fn run_named(rt: &HostRuntime, way: Way, asked: Asked) {
     if asked.names == 3 {
         name_files(rt, way, first_name(rt), asked.first, true, asked.second);
     } else {
         name_files(rt, way, asked.first, asked.second, false, 0);
+    }
+}
+
+// Turns the file that is named first into the one that is named next, or prints the refusal. A third name is that of
+// the seconds: a target of packing, a source of unpacking.
+pub fn run(rt: &HostRuntime, way: Way, usage: &[u8]) {
+    match console::arguments(rt) {
+        Some(asked) if !asked.explain && takes(way, asked.names) => run_named(rt, way, asked),
+        _ => console::say(rt, usage),
     }
 }

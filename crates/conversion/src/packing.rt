@@ -6,28 +6,26 @@ ghost use Rattle.conversion.specs.Forms.{Packs};
 use crate::telling::tell;
 use crate::{Packed, SHEET, Way};
 use blocks::timed;
-use notation::Levelled;
-use slices::{half_bytes, wide};
+use slices::{Refusal, half_bytes};
 
 // The seconds of the most letters, two bytes each.
 const SECONDS: usize = 64;
 
 // What a text says, to the starts of two slices: the packed sheet, and the bytes of the seconds.
-fn pack(text: &[u8], sheet: &mut [u8], seconds: &mut [u8]) -> Packed
+fn pack(text: &[u8], sheet: &mut [u8], seconds: &mut [u8]) -> Result<Packed, Refusal>
     requires { 64 ≤ length seconds.old }
     ensures { Packs (sheet_in text.now) sheet.old seconds.old
         sheet.new seconds.new result }
 {
     let mut cells = [0u16; 32];
-    let answer = notation::read(text, sheet, &mut cells);
-    match answer {
-        Levelled::Refused(r) => Packed::Refused(r),
-        Levelled::Filled(level, n) => {
-            let m = timed(level, wide(sheet[0]));
-            half_bytes(&cells[..m], seconds);
-            Packed::Filled(level, n, m * 2)
-        }
-    }
+    let read = notation::read(text, sheet, &mut cells)?;
+    let m = timed(read.level, usize::from(sheet[0]));
+    half_bytes(&cells[..m], seconds);
+    Ok(Packed {
+        level: read.level,
+        sheet: read.filled,
+        seconds: m * 2,
+    })
 }
 
 // Saves the packed sheet and the seconds of a text, where source and targets are three files. Which are one is said,
@@ -90,14 +88,14 @@ pub fn save_packed(
 ) {
     let mut sheet = [0u8; SHEET];
     let mut seconds = [0u8; SECONDS];
-    let answer = pack(text, &mut sheet, &mut seconds);
-    match answer {
-        Packed::Refused(r) => tell(rt, Way::Pack, source, text, third, b"", r),
-        Packed::Filled(level, n, m) => {
+    match pack(text, &mut sheet, &mut seconds) {
+        Err(r) => tell(rt, Way::Pack, source, text, third, b"", r),
+        Ok(packed) => {
+            let sheet = &sheet[..packed.sheet];
             if named {
-                save_three(rt, source, target, &sheet[..n], third, &seconds[..m]);
+                save_three(rt, source, target, sheet, third, &seconds[..packed.seconds]);
             } else {
-                save_alone(rt, source, target, &sheet[..n], level);
+                save_alone(rt, source, target, sheet, packed.level);
             }
         }
     }

@@ -3,7 +3,7 @@ ghost use Rattle.std.specs.Prelude.{◌≤◌, length};
 ghost use Rattle.console.specs.Files.{IsPrefixLen};
 
 use crate::Way;
-use slices::{Part, Refusal, refuse};
+use slices::{Part, Reason, Refusal};
 
 // The longest name that words have room for.
 const NAME: usize = 4096;
@@ -15,7 +15,7 @@ const CELLS: usize = 32768;
 fn shortened(name: &[u8]) -> usize
     ensures { IsPrefixLen result name.now × (result ≤ 4096) }
 {
-    if name.len() < NAME { name.len() } else { NAME }
+    name.len().min(NAME)
 }
 
 // The place in bytes of a number of seconds.
@@ -25,16 +25,13 @@ fn in_bytes(place: usize) -> usize {
 
 // A refusal by the file that it is in: one of the seconds is in the second file.
 fn in_files(r: Refusal) -> Refusal {
-    let part = r.part;
-    match part {
-        Part::Seconds => refuse(r.number, Part::Second, in_bytes(r.place)),
-        Part::First => r,
-        Part::Second => r,
-        Part::Opening => r,
-        Part::Loop => r,
-        Part::Out => r,
-        Part::Work => r,
-        Part::Cursor => r,
+    match r.part {
+        Part::Seconds => Refusal {
+            part: Part::Second,
+            place: in_bytes(r.place),
+            ..r
+        },
+        _ => r,
     }
 }
 
@@ -70,11 +67,7 @@ fn say_words(
 
 // Whether a refusal is that there are too few seconds.
 fn lacks_seconds(r: Refusal) -> bool {
-    let part = r.part;
-    match part {
-        Part::Seconds => r.number == 21,
-        _ => false,
-    }
+    r.part == Part::Seconds && r.reason == Reason::TooLittleRoom
 }
 
 fn say_short(rt: &HostRuntime, r: Refusal) {

@@ -1,12 +1,11 @@
 // From packed sheet and seconds to text; from the text of an automaton to packed sheet.
-ghost use Rattle.std.specs.Prelude.{◌≡◌, ◌≤◌, length};
+ghost use Rattle.std.specs.Prelude.{◌≡◌, IfOk, ◌≤◌, length};
 ghost use Rattle.console.specs.Files.{IsPrefixLen};
-ghost use Rattle.conversion.specs.Forms.{level_of_value, Unpacks, Within};
+ghost use Rattle.conversion.specs.Forms.{level_of_value, Unpacks};
 
 use crate::telling::tell;
 use crate::{SHEET, Way};
-use console::Length;
-use slices::{Part, Written, halves, wide};
+use slices::{Part, Refusal, halves};
 
 // The text of the longest packed sheet, at level four, with next places of two digits and seconds of three.
 const LONGEST: usize = 109630;
@@ -25,7 +24,7 @@ fn level_of(named: bool) -> usize
 }
 
 // The text of a packed sheet and of the bytes of its seconds.
-fn unpack(sheet: &[u8], named: bool, seconds: &[u8], out: &mut [u8]) -> Written
+fn unpack(sheet: &[u8], named: bool, seconds: &[u8], out: &mut [u8]) -> Result<usize, Refusal>
     requires { length seconds.now ≤ 65536 }
     ensures { Unpacks named sheet.now seconds.now out.old out.new
         result }
@@ -38,7 +37,10 @@ fn unpack(sheet: &[u8], named: bool, seconds: &[u8], out: &mut [u8]) -> Written
 
 // The letters of a sheet.
 fn letters(sheet: &[u8]) -> usize {
-    if 0 < sheet.len() { wide(sheet[0]) } else { 0 }
+    match sheet.first() {
+        Some(&n) => usize::from(n),
+        None => 0,
+    }
 }
 
 // Says so where the file of seconds, if one is named, has not two bytes for each letter of the sheet.
@@ -127,7 +129,7 @@ fn keep(
 // Saves what was filled, or tells the refusal.
 fn save_filled(
     rt: &HostRuntime,
-    answer: Written,
+    answer: Result<usize, Refusal>,
     out: &[u8],
     target: &[u8],
     way: Way,
@@ -136,11 +138,11 @@ fn save_filled(
     two: &[u8],
     second: &[u8],
 )
-    requires { Within answer out.now }
+    requires { IfOk answer (λ n. n ≤ length out.now) }
 {
     match answer {
-        Written::Refused(r) => tell(rt, way, one, first, two, second, r),
-        Written::Filled(n) => keep(rt, way, one, first, two, second, target, &out[..n]),
+        Err(r) => tell(rt, way, one, first, two, second, r),
+        Ok(n) => keep(rt, way, one, first, two, second, target, &out[..n]),
     }
 }
 
@@ -192,10 +194,9 @@ pub fn save_unpacked(
 ) {
     let mut seconds = [0u8; console::ROOM];
     let n = load_seconds(rt, named, third, &mut seconds);
-    let length = console::check_length(n, Part::Second);
-    match length {
-        Length::Refused(r) => tell(rt, Way::Unpack, source, sheet, third, &seconds[..n], r),
-        Length::Good => save_text(rt, source, sheet, named, third, &seconds[..n], target),
+    match console::check_length(n, Part::Second) {
+        Err(r) => tell(rt, Way::Unpack, source, sheet, third, &seconds[..n], r),
+        Ok(()) => save_text(rt, source, sheet, named, third, &seconds[..n], target),
     }
 }
 

@@ -1,4 +1,5 @@
 -- Stepping m times from the start passes letter m of the lasso's infinite word, for every m. Assumes nothing.
+use Rattle.std.specs.Prelude.{Ok}
 use mathlib.Core.Path.{◌≡◌, refl, ap, ap₂, sym, ◌∙◌}
 use mathlib.Core.Bool.{Bool, cond}
 use mathlib.Core.List.{List}
@@ -13,7 +14,8 @@ use Rattle.fdfa.specs.OmegaWord.{letter_at}
 use Rattle.fdfa.proofs.OmegaWord.{prefix-letter, period-letter}
 use Rattle.cursor.specs.declared.Phase.TheVariants.{Prefix, Period}
 use Rattle.cursor.specs.declared.Cursor.{Cursor}
-use Rattle.cursor.specs.Walking.{start_of, next_in, next_of, stepped, moved, cursor_after}
+use Rattle.cursor.specs.declared.Step.{Step}
+use Rattle.cursor.specs.Walking.{start_of, next_in, next_of, stepped, cursor_after}
 use Rattle.cursor.proofs.Stepping.{inside, step-passes}
 
 module _ (u v : List ℕ) (some : 0 < length v) where
@@ -90,17 +92,17 @@ module _ (u v : List ℕ) (some : 0 < length v) where
   full : length v ≡ 0 → ⊥
   full e = omega arith
 
-  passes : (m : ℕ) (c : Cursor) → Stands m c → stepped c u v ≡ moved (letter_at u v m) (next_of c u v)
+  passes : (m : ℕ) (c : Cursor) → Stands m c → stepped c u v ≡ record { letter = Ok (letter_at u v m); cursor = next_of c u v }
   passes m c (in_prefix h e) =
       ap (λ (d : Cursor). stepped d u v) e
-      ∙ (sym (step-passes p u v full Prefix refl) ∙ (sym (inside p u h) ∙ ap₂ moved (sym (prefix-letter u v m h)) (ap (λ (d : Cursor). next_of d u v) (sym e))))
+      ∙ (sym (step-passes p u v full Prefix refl) ∙ (sym (inside p u h) ∙ ap₂ {C = Step} (λ (x : ℕ) (d : Cursor). record { letter = Ok x; cursor = d }) (sym (prefix-letter u v m h)) (ap (λ (d : Cursor). next_of d u v) (sym e))))
     where
       p : Cursor
       p = record { phase = Prefix; at = m }
   passes m c (in_period h e) =
       ap (λ (d : Cursor). stepped d u v) e
       ∙ (sym (step-passes p u v full Period refl)
-      ∙ (sym (inside p v (mod-lt (m - length u) some)) ∙ ap₂ moved (sym (period-letter u v (m - length u) some) ∙ ap (letter_at u v) whole) (ap (λ (d : Cursor). next_of d u v) (sym e))))
+      ∙ (sym (inside p v (mod-lt (m - length u) some)) ∙ ap₂ {C = Step} (λ (x : ℕ) (d : Cursor). record { letter = Ok x; cursor = d }) (sym (period-letter u v (m - length u) some) ∙ ap (letter_at u v) whole) (ap (λ (d : Cursor). next_of d u v) (sym e))))
     where
       p : Cursor
       p = record { phase = Period; at = (m - length u) % length v }
@@ -109,6 +111,6 @@ module _ (u v : List ℕ) (some : 0 < length v) where
       whole = omega arith
 
   -- the letter that step m passes is the run's letter m, and no step is refused
-  pub runs : (m : ℕ) → stepped (cursor_after u v m) u v ≡ moved (letter_at u v m) (cursor_after u v (suc m))
+  pub runs : (m : ℕ) → stepped (cursor_after u v m) u v ≡ record { letter = Ok (letter_at u v m); cursor = cursor_after u v (suc m) }
   unfolding cursor_after
   runs m = passes m (cursor_after u v m) (stands m)

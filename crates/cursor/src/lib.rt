@@ -3,81 +3,83 @@
 #![tactic(auto)]
 
 ghost use Rattle.std.specs.Prelude.{◌≡◌};
-ghost use Rattle.cursor.specs.Walking.{start_of, stepped, says_of, rest_of, rest_lies};
+ghost use Rattle.cursor.specs.Walking.{start_of, stepped, rest_of, rest_lies};
 ghost use Rattle.cursor.specs.Passing.{passed_in};
 
-use slices::{Part, Refusal, refuse};
+use slices::{Part, Reason, Refusal, refuse};
 
 // The word of the lasso that the cursor stands in.
-#[derive(Clone, Copy)]
+#[derive(Clone, Copy, Debug, PartialEq, Eq)]
 pub enum Phase {
     Prefix,
     Period,
 }
 
-#[derive(Clone, Copy)]
+#[derive(Clone, Copy, Debug, PartialEq, Eq)]
 pub struct Cursor {
     pub phase: Phase,
     pub at: usize,
 }
 
-// What a step says: the letter that it passed and the cursor moved, or the refusal and the cursor as it was.
-#[derive(Clone, Copy)]
-pub enum Step {
-    Passed(u8, Cursor),
-    Refused(Refusal, Cursor),
+// A step: the letter that it passed or the refusal, and the cursor moved, or as it was.
+#[derive(Clone, Copy, Debug, PartialEq, Eq)]
+pub struct Step {
+    pub letter: Result<u8, Refusal>,
+    pub cursor: Cursor,
 }
 
 // The cursor before the first letter. It takes the prefix alone and is never refused.
 pub fn start(prefix: &[u8]) -> Cursor
     ensures { result ≡ start_of prefix.now }
 {
-    if prefix.len() == 0 {
-        Cursor {
-            phase: Phase::Period,
-            at: 0,
-        }
+    let phase = if prefix.len() == 0 {
+        Phase::Period
     } else {
-        Cursor {
-            phase: Phase::Prefix,
-            at: 0,
-        }
-    }
+        Phase::Prefix
+    };
+    Cursor { phase, at: 0 }
 }
 
 // The letter at the cursor in its word, and the cursor behind it.
 fn pass(c: Cursor, word: &[u8]) -> Step
-    ensures { says_of result ≡ passed_in c word.now }
+    ensures { result ≡ passed_in c word.now }
 {
     let at = c.at;
     if word.len() <= at {
-        return Step::Refused(refuse(24, Part::Cursor, at), c);
+        return Step {
+            letter: Err(refuse(Reason::CursorPastEnd, Part::Cursor, at)),
+            cursor: c,
+        };
     }
-    let letter = word[at];
-    if at + 1 < word.len() {
-        let phase = c.phase;
-        Step::Passed(letter, Cursor { phase, at: at + 1 })
+    let cursor = if at + 1 < word.len() {
+        Cursor {
+            phase: c.phase,
+            at: at + 1,
+        }
     } else {
-        Step::Passed(
-            letter,
-            Cursor {
-                phase: Phase::Period,
-                at: 0,
-            },
-        )
+        Cursor {
+            phase: Phase::Period,
+            at: 0,
+        }
+    };
+    Step {
+        letter: Ok(word[at]),
+        cursor,
     }
 }
 
 impl Cursor {
     // One letter further.
     pub fn step(self, prefix: &[u8], period: &[u8]) -> Step
-        ensures { says_of result ≡ stepped self prefix.now period.now }
+        ensures { result ≡ stepped self prefix.now period.now }
     {
         if period.len() == 0 {
-            return Step::Refused(refuse(8, Part::Loop, 0), self);
+            return Step {
+                letter: Err(refuse(Reason::EmptyLoop, Part::Loop, 0)),
+                cursor: self,
+            };
         }
-        let phase = self.phase;
-        match phase {
+        match self.phase {
             Phase::Prefix => pass(self, prefix),
             Phase::Period => pass(self, period),
         }
@@ -93,22 +95,14 @@ pub fn rest<'a>(c: Cursor, prefix: &'a [u8], period: &'a [u8]) -> &'a [u8]
     if period.len() == 0 {
         return &prefix[..0];
     }
-    let phase = c.phase;
+    let word = match c.phase {
+        Phase::Prefix => prefix,
+        Phase::Period => period,
+    };
     let at = c.at;
-    match phase {
-        Phase::Prefix => {
-            if at < prefix.len() {
-                &prefix[at..]
-            } else {
-                &prefix[..0]
-            }
-        }
-        Phase::Period => {
-            if at < period.len() {
-                &period[at..]
-            } else {
-                &prefix[..0]
-            }
-        }
+    if at < word.len() {
+        &word[at..]
+    } else {
+        &prefix[..0]
     }
 }

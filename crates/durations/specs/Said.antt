@@ -1,7 +1,6 @@
 -- What is said on standard error, for people: a refusal in words. Assumes nothing.
-use Rattle.std.specs.Prelude.{Bool, true, cond, ◌&&◌, List, [], ◌++◌, ℕ, eqb}
+use Rattle.std.specs.Prelude.{Bool, true, cond, ◌&&◌, List, [], ◌++◌, ℕ, eqb, Result, Ok, Err}
 use Rattle.slices.specs.declared.Refusal.{Refusal}
-use Rattle.slices.specs.Refusals.{Result, given, refused}
 use Rattle.slices.specs.Texts.{bytes}
 use Rattle.wording.specs.declared.Position.{Position}
 use Rattle.wording.specs.Words.{File, line_place, is_scene_of, scene_position_of, show_words_of}
@@ -24,9 +23,9 @@ refused_words one two r =
     (show_words_of (bytes "durations") one two (openings two.held) r)
 
 -- Nothing where a running sheet is printed.
-abbrev pub said_of : File → File → Result (List ℕ) → List ℕ
-said_of one two (given x) = []
-said_of one two (refused r) = refused_words one two r
+abbrev pub said_of : File → File → Result (List ℕ) Refusal → List ℕ
+said_of one two (Ok x) = []
+said_of one two (Err r) = refused_words one two r
 
 -- Both files are text.
 abbrev pub text_file : List ℕ → List ℕ → File

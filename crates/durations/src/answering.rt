@@ -6,7 +6,6 @@ ghost use Rattle.durations.specs.Said.{message_text};
 
 use crate::saying::put_refusal;
 use durations_files::write_files;
-use slices::Written;
 
 // How many bytes are printed, and how many said.
 #[derive(Clone, Copy)]
@@ -31,13 +30,11 @@ pub fn put_answer(
         (message_text one.now text.now two.now show.now)
         said.old said.new result.said }
 {
-    let answer = write_files(text, show, out);
-    match answer {
-        Written::Filled(n) => Printed { text: n, said: 0 },
-        Written::Refused(r) => {
-            let n = console::refusal_text(r, out);
-            let m = put_refusal(one, text, two, show, r, said);
-            Printed { text: n, said: m }
-        }
+    match write_files(text, show, out) {
+        Ok(n) => Printed { text: n, said: 0 },
+        Err(r) => Printed {
+            text: console::refusal_text(r, out),
+            said: put_refusal(one, text, two, show, r, said),
+        },
     }
 }

@@ -58,10 +58,10 @@ fn run_named(rt: &HostRuntime, i: usize, j: usize) {
 }
 
 fn main(rt: HostRuntime) {
-    let asked = console::arguments(&rt);
-    if asked.usage || asked.explain || asked.names != 2 {
-        usage(&rt);
-        return;
+    match console::arguments(&rt) {
+        Some(asked) if !asked.explain && asked.names == 2 => {
+            run_named(&rt, asked.first, asked.second);
+        }
+        _ => usage(&rt),
     }
-    run_named(&rt, asked.first, asked.second);
 }

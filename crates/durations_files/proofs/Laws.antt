@@ -1,11 +1,13 @@
 -- What is decided of texts that are read: only a letter that has no cell is refused. And of the text of a sheet and that of a show, whose letters
 -- have cells, it is the running sheet of that show. Assumes nothing.
+use Rattle.std.specs.Prelude.{Result, Ok}
+use Rattle.slices.specs.declared.Refusal.{Refusal}
 use mathlib.Core.Path.{◌≡◌, refl, ap, sym, subst, ◌∙◌}
 use mathlib.Core.List.{List}
 use Prim.Native.Nat.{ℕ, ◌≤◌}
 use native.Mathlib.Omega.{arith}
 use lib.ListN.{length}
-use Rattle.slices.specs.Refusals.{Fault, sound, fault, ◌then◌, Result, given, unless, mapped}
+use Rattle.slices.specs.Refusals.{Fault, sound, fault, ◌then◌, unless, mapped}
 use Rattle.slices.specs.LassoLetters.{letters_fault}
 use Rattle.slices.specs.Seconds.{TimesFit}
 use Rattle.slices.proofs.Refusals.{passed}
@@ -34,7 +36,7 @@ then-none sound e = e
 then-none (fault r) e = refl
 
 -- a sheet's text that is read
-module _ (b : List ℕ) (x : Sheet) (is : sheet_in b ≡ given x) where
+module _ (b : List ℕ) (x : Sheet) (is : sheet_in b ≡ Ok x) where
   written : Writable x
   written = (notation.read-text b x is).0
 
@@ -47,7 +49,7 @@ module _ (b : List ℕ) (x : Sheet) (is : sheet_in b ≡ given x) where
       sym (all-cells x.seconds)
       ∙ fit-seconds (length x.seconds) x.seconds (subst (λ (m : ℕ). TimesFit m x.seconds) (sym written.exact) written.times)
 
-  -- Neither 14 nor 26 is left for the running sheet.
+  -- Neither a second out of range nor a part too long is left for the running sheet.
   pub only-unknown : (t : List ℕ) → read_fault (shown t) 4096 4096 ≡ sound
       → input_fault (prefix_shown t) (period_shown t) x.seconds ≡ letters_fault (length x.seconds) (prefix_shown t) (period_shown t)
   unfolding input_fault
@@ -75,14 +77,14 @@ module _ (b : List ℕ) (x : Sheet) (is : sheet_in b ≡ given x) where
         only-unknown t read
         ∙ (ap (λ (w : Words). letters_fault (length x.seconds) w.prefix w.period) is-lasso ∙ lasso-letters (length x.seconds) u v known)
 
-    runs : running x.seconds t ≡ given (running_sheet_of u v x.seconds)
+    runs : running x.seconds t ≡ Ok (running_sheet_of u v x.seconds)
     unfolding running
     runs =
         ap (λ (f : Fault). unless f (running_sheet_of (prefix_shown t) (period_shown t) x.seconds)) (passed _ read ∙ nothing)
-        ∙ ap (λ (w : Words). given (running_sheet_of w.prefix w.period x.seconds)) is-lasso
+        ∙ ap (λ (w : Words). Ok (running_sheet_of w.prefix w.period x.seconds)) is-lasso
 
-    pub show-decided : length b ≤ 65536 → length t ≤ 65536 → decided b t ≡ given (running_sheet_of u v x.seconds)
+    pub show-decided : length b ≤ 65536 → length t ≤ 65536 → decided b t ≡ Ok (running_sheet_of u v x.seconds)
     unfolding decided
     show-decided h k =
         ap (λ (f : Fault). after f (of_cells (cells_in b) t)) (lengths-good (length b) (length t) h k)
-        ∙ (ap (λ (y : Result Sheet). of_cells (mapped seconds_in y) t) is ∙ runs)
+        ∙ (ap (λ (y : Result Sheet Refusal). of_cells (mapped seconds_in y) t) is ∙ runs)

@@ -1,4 +1,6 @@
 -- The running sheet of a show's text: the text's refusals, then the call's own, for which the out slice is long enough. Assumes nothing.
+use Rattle.slices.specs.declared.Reason.TheVariants.{TooLittleRoom}
+use Rattle.std.specs.Prelude.{Result, Err}
 use mathlib.Core.Path.{◌≡◌, refl, ap, sym, ◌∙◌}
 use mathlib.Core.List.{List}
 use Prim.Native.Nat.{ℕ, ◌≤◌}
@@ -7,8 +9,6 @@ use lib.ListN.{length}
 use borrow.Author.Tests.{le-ltb}
 use Rattle.slices.specs.declared.Part.TheVariants.{Second, Out}
 use Rattle.slices.specs.declared.Refusal.{Refusal}
-use Rattle.slices.specs.declared.Written.{Written}
-use Rattle.slices.specs.declared.Written.TheVariants.{Refused}
 use Rattle.slices.specs.Refusals.{Fault, sound, fault, unless}
 use Rattle.slices.specs.Filling.{Fills}
 use Rattle.slices.proofs.Refusals.{passed, failed, then-left, when-passes}
@@ -29,7 +29,7 @@ use Rattle.durations_files.specs.Decided.{prefix_shown, period_shown, running}
 
 module _ (w t : List ℕ) where
   -- the show's text, or its room
-  pub running-unread : {old : List ℕ} {r : Refusal} → read_fault (shown t) 4096 4096 ≡ fault r → FillsWith (running w t) old old (Refused r)
+  pub running-unread : {old : List ℕ} {r : Refusal} → read_fault (shown t) 4096 4096 ≡ fault r → FillsWith (running w t) old old (Err r)
   unfolding running
   running-unread e = result-refused (ap (λ (f : Fault). unless f (running_sheet_of (prefix_shown t) (period_shown t) w)) (failed _ e)) refl
 
@@ -42,12 +42,12 @@ module _ (w t : List ℕ) where
     enough {room} long sound e =
         let m = measurable (prefix_shown t) (period_shown t) w (sound-printable (prefix_shown t) (period_shown t) w e) in
         passed _ e
-        ∙ when-passes 21 Out _ (le-ltb room (length (running_sheet_of (prefix_shown t) (period_shown t) w))
+        ∙ when-passes TooLittleRoom Out _ (le-ltb room (length (running_sheet_of (prefix_shown t) (period_shown t) w))
         (omega (arith, long, (both-few t read).0, (both-few t read).1, running-few (prefix_shown t) (period_shown t) w lasso.prefix lasso.period m.0 m.1)))
     enough long (fault r) e = failed _ e
 
     -- what was read, as it lies in slices
-    pub running-read : {u v old out : List ℕ} {r : Written} → u ≡ prefix_shown t → v ≡ period_shown t → 131146 ≤ length old
+    pub running-read : {u v old out : List ℕ} {r : Result ℕ Refusal} → u ≡ prefix_shown t → v ≡ period_shown t → 131146 ≤ length old
         → Fills (write_fault u v w (length old)) (running_sheet_of u v w) old out r → FillsWith (running w t) old out r
     unfolding running
     running-read {old = old} e d long h =

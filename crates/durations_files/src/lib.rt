@@ -6,12 +6,9 @@ ghost use Rattle.sheet_forms.specs.Forms.{FillsWith};
 ghost use Rattle.durations_files.specs.Decided.{cells_in, cell_count, running, of_cells, decided};
 
 use blocks::timed;
-use console::Length;
-use lasso_text::Lengths;
-use notation::Levelled;
 use sheet_forms::SHEET;
 use show_files::SCENES;
-use slices::{Part, Written, wide};
+use slices::{Part, Refusal};
 
 // Room for every running sheet: 16 bytes for each of 8,192 scenes, 74 for the names and the totals.
 pub const TEXT: usize = 131146;
@@ -20,19 +17,13 @@ pub const TEXT: usize = 131146;
 const CELLS: usize = 32;
 
 // The seconds of a sheet's text, to the start of the slice.
-fn read_cells(text: &[u8], cells: &mut [u16]) -> Written
+fn read_cells(text: &[u8], cells: &mut [u16]) -> Result<usize, Refusal>
     requires { length cells.old ≡ 32 }
     ensures { FillsWith (cells_in text.now) cells.old cells.new result }
 {
     let mut sheet = [0u8; SHEET];
-    let answer = notation::read(text, &mut sheet, cells);
-    match answer {
-        Levelled::Refused(r) => Written::Refused(r),
-        Levelled::Filled(level, _) => {
-            let m = timed(level, wide(sheet[0]));
-            Written::Filled(m)
-        }
-    }
+    let read = notation::read(text, &mut sheet, cells)?;
+    Ok(timed(read.level, usize::from(sheet[0])))
 }
 
 // How many seconds a sheet's text has; none where it is not read.
@@ -40,51 +31,40 @@ pub fn count_cells(text: &[u8]) -> usize
     ensures { result ≡ cell_count text.now }
 {
     let mut cells = [0u16; CELLS];
-    let answer = read_cells(text, &mut cells);
-    match answer {
-        Written::Refused(_) => 0,
-        Written::Filled(m) => m,
-    }
+    read_cells(text, &mut cells).unwrap_or(0)
 }
 
 // The running sheet of a show's text, with these seconds.
-fn write_running(seconds: &[u16], show: &[u8], out: &mut [u8]) -> Written
+fn write_running(seconds: &[u16], show: &[u8], out: &mut [u8]) -> Result<usize, Refusal>
     requires { 131146 ≤ length out.old }
-    ensures { FillsWith (running seconds.now show.now) out.old
-        out.new result }
+    ensures { FillsWith (running seconds.now show.now) out.old out.new result }
 {
     let mut opening = [0u8; SCENES];
     let mut period = [0u8; SCENES];
-    let lengths = lasso_text::read(show, Part::Second, &mut opening, &mut period);
-    match lengths {
-        Lengths::Refused(r) => Written::Refused(r),
-        Lengths::Filled(m, n) => running_sheet::write(&opening[..m], &period[..n], seconds, out),
-    }
+    let lengths = lasso_text::read(show, Part::Second, &mut opening, &mut period)?;
+    running_sheet::write(
+        &opening[..lengths.prefix],
+        &period[..lengths.period],
+        seconds,
+        out,
+    )
 }
 
 // The sheet's text first, then the show's.
-fn write_texts(text: &[u8], show: &[u8], out: &mut [u8]) -> Written
+fn write_texts(text: &[u8], show: &[u8], out: &mut [u8]) -> Result<usize, Refusal>
     requires { 131146 ≤ length out.old }
-    ensures { FillsWith (of_cells (cells_in text.now) show.now) out.old
-        out.new result }
+    ensures { FillsWith (of_cells (cells_in text.now) show.now) out.old out.new result }
 {
     let mut cells = [0u16; CELLS];
-    let answer = read_cells(text, &mut cells);
-    match answer {
-        Written::Refused(r) => Written::Refused(r),
-        Written::Filled(m) => write_running(&cells[..m], show, out),
-    }
+    let count = read_cells(text, &mut cells)?;
+    write_running(&cells[..count], show, out)
 }
 
 // Two files, of which so many bytes came.
-pub fn write_files(text: &[u8], show: &[u8], out: &mut [u8]) -> Written
+pub fn write_files(text: &[u8], show: &[u8], out: &mut [u8]) -> Result<usize, Refusal>
     requires { 131146 ≤ length out.old }
-    ensures { FillsWith (decided text.now show.now) out.old
-        out.new result }
+    ensures { FillsWith (decided text.now show.now) out.old out.new result }
 {
-    let length = console::check_lengths(text.len(), show.len());
-    match length {
-        Length::Refused(r) => Written::Refused(r),
-        Length::Good => write_texts(text, show, out),
-    }
+    console::check_lengths(text.len(), show.len())?;
+    write_texts(text, show, out)
 }

@@ -1,5 +1,6 @@
 -- Two words are refused neither for a letter nor for an empty period exactly if they are a lasso over the letters; a first unknown letter
 -- of the prefix is what they are refused for. Assumes nothing.
+use Rattle.slices.specs.declared.Reason.TheVariants.{EmptyLoop, UnknownLetter}
 use mathlib.Core.Path.{◌≡◌, refl, ap, subst, ◌∙◌}
 use mathlib.Core.List.{List, [], ◌∷◌}
 use Prim.Native.Nat.{ℕ, ◌≤◌, ◌<◌}
@@ -21,16 +22,16 @@ use Rattle.fdfa.specs.Family.{Lasso}
 use Rattle.fdfa.specs.Pass.{FirstUnknown}
 use Rattle.fdfa.proofs.Words.{letters-over, over-letter}
 
-word_over : (part : Part) (s : ℕ) (w : List ℕ) → scan 9 part 0 s w 0 (length w) ≡ sound → Over s w
-word_over part s w e = letters-over s w (λ i h. rw (zero-add i) at (scan-sound 9 part 0 s w 0 (length w) e i h).1)
+word_over : (part : Part) (s : ℕ) (w : List ℕ) → scan UnknownLetter part 0 s w 0 (length w) ≡ sound → Over s w
+word_over part s w e = letters-over s w (λ i h. rw (zero-add i) at (scan-sound UnknownLetter part 0 s w 0 (length w) e i h).1)
 
-over_word : (part : Part) (s : ℕ) (w : List ℕ) → Over s w → scan 9 part 0 s w 0 (length w) ≡ sound
-over_word part s w o = sound-scan 9 part 0 s w 0 (length w) (λ i h. (omega arith, rw (zero-add i) (over-letter o i h)))
+over_word : (part : Part) (s : ℕ) (w : List ℕ) → Over s w → scan UnknownLetter part 0 s w 0 (length w) ≡ sound
+over_word part s w o = sound-scan UnknownLetter part 0 s w 0 (length w) (λ i h. (omega arith, rw (zero-add i) (over-letter o i h)))
 
-first-refused : (part : Part) (s : ℕ) (w : List ℕ) (i : ℕ) → FirstUnknown s w i → scan 9 part 0 s w 0 (length w) ≡ fault_of 9 part i
+first-refused : (part : Part) (s : ℕ) (w : List ℕ) (i : ℕ) → FirstUnknown s w i → scan UnknownLetter part 0 s w 0 (length w) ≡ fault_of UnknownLetter part i
 first-refused part s w i u =
-    scan-fault 9 part 0 s w 0 (length w) i u.within (λ k h. (omega arith, rw (zero-add k) (before k h))) (rw (zero-add i) u.here)
-    ∙ ap (fault_of 9 part) (zero-add i)
+    scan-fault UnknownLetter part 0 s w 0 (length w) i u.within (λ k h. (omega arith, rw (zero-add k) (before k h))) (rw (zero-add i) u.here)
+    ∙ ap (fault_of UnknownLetter part) (zero-add i)
   where
     before : (k : ℕ) → k < i → get_or w k 0 < s
     before k h = subst (λ (x : ℕ). x < s) (get_or-take i w k 0 h) (over-letter u.before k (omega (arith, length-take-le i w (omega (arith, u.within)))))
@@ -49,7 +50,7 @@ lasso-more {s} {t} h l = record { prefix = more l.prefix; period = more l.period
 
 module _ (s : ℕ) (u v : List ℕ) where
   -- the first unknown letter of the prefix is refused; where there is none, the period is judged
-  pub unknown-fault : (i : ℕ) → FirstUnknown s u i → letters_fault s u v ≡ fault_of 9 Opening i
+  pub unknown-fault : (i : ℕ) → FirstUnknown s u i → letters_fault s u v ≡ fault_of UnknownLetter Opening i
   unfolding letters_fault
   unknown-fault i k = failed _ (first-refused Opening s u i k)
 
@@ -62,17 +63,17 @@ module _ (s : ℕ) (u v : List ℕ) where
   letters-lasso e = record {
     prefix = word_over Opening s u (then-left t1 (t2 then t3) e);
     period = word_over Loop s v (then-right t2 t3 e2);
-    loops = λ d. eqb-false (length v) 0 (when-sound _ 8 Loop 0 (then-left t2 t3 e2)) (ap length d);
+    loops = λ d. eqb-false (length v) 0 (when-sound _ EmptyLoop Loop 0 (then-left t2 t3 e2)) (ap length d);
   }
     where
       t1 : Fault
-      t1 = scan 9 Opening 0 s u 0 (length u)
+      t1 = scan UnknownLetter Opening 0 s u 0 (length u)
 
       t2 : Fault
-      t2 = when (eqb (length v) 0) 8 Loop 0
+      t2 = when (eqb (length v) 0) EmptyLoop Loop 0
 
       t3 : Fault
-      t3 = scan 9 Loop 0 s v 0 (length v)
+      t3 = scan UnknownLetter Loop 0 s v 0 (length v)
 
       e2 : t2 then t3 ≡ sound
       e2 = then-right t1 (t2 then t3) e

@@ -1,5 +1,7 @@
 -- Steps that may depend on the numbers of those before them, read one after the other; and that repetition of such steps, as long as the
 -- byte stands that each begins with, is inverse to printing. Assumes nothing.
+use Rattle.std.specs.Prelude.{Result, Ok}
+use Rattle.slices.specs.declared.Refusal.{Refusal}
 use mathlib.Core.Path.{◌≡◌, refl, ap, sym, subst, ◌∙◌}
 use mathlib.Core.Bool.{true, false, not, true≢false}
 use mathlib.Core.List.{List, [], ◌∷◌, ◌++◌}
@@ -9,7 +11,6 @@ use native.Mathlib.Numerals.{add-one}
 use native.Mathlib.Decide.{ℕ_discrete}
 use lib.ListN.{length, length-append}
 use Rattle.slices.specs.declared.Part.{Part}
-use Rattle.slices.specs.Refusals.{Result, given}
 use Rattle.slices.proofs.Extremes.{least-passes}
 use Rattle.slices.proofs.Tests.{of-not}
 use Rattle.numbers.proofs.Standing.{At, at_left, at_right}
@@ -27,15 +28,15 @@ each-chained zero f = refl
 each-chained (suc m) f = ap (λ (x : Format). seq x (λ vs. f m)) (each-chained m f)
 
 module _ (part : Part) (t : List ℕ) (f : ℕ → List ℕ → Format) (at : ℕ) where
-  pub chained-none : reading part t (chained 0 f) at ≡ given (record { values = []; next = at })
+  pub chained-none : reading part t (chained 0 f) at ≡ Ok (record { values = []; next = at })
   unfolding chained reading
   chained-none = refl
 
-  pub chained-next : {w : Found} {r : Result Found} (i : ℕ) → reading part t (chained i f) at ≡ given w → reading part t (f i w.values) w.next ≡ r → reading part t (chained (i + 1) f) at ≡ after w.values r
+  pub chained-next : {w : Found} {r : Result Found Refusal} (i : ℕ) → reading part t (chained i f) at ≡ Ok w → reading part t (f i w.values) w.next ≡ r → reading part t (chained (i + 1) f) at ≡ after w.values r
   unfolding chained
   chained-next {w} {r} i e d =
       ap (λ (k : ℕ). reading part t (chained k f) at) (add-one i)
-      ∙ (reading-seq part t (chained i f) (f i) at ∙ (ap (λ (x : Result Found). chain x (onward part t (f i))) e ∙ ap (after w.values) d))
+      ∙ (reading-seq part t (chained i f) (f i) at ∙ (ap (λ (x : Result Found Refusal). chain x (onward part t (f i))) e ∙ ap (after w.values) d))
 
 -- The text of each step begins with the byte c.
 abbrev pub Begins : ℕ → (ℕ → List ℕ → Format) → Type 0
@@ -119,11 +120,11 @@ module _ (f : ℕ → List ℕ → Format) where
               record { values = r.values; fits = r.fits; here = r.here; next = λ k. r.next (omega arith) }
 
       pub chained-is : (part : Part) (m : ℕ) (vs : List ℕ) → Fits (chained m f) vs → At t at (printed (chained m f) vs) → stands t c (at + length (printed (chained m f) vs)) ≡ false
-          → repeated part t c (λ k. chained k f) at ≡ given (record { values = vs; next = at + length (printed (chained m f) vs) })
+          → repeated part t c (λ k. chained k f) at ≡ Ok (record { values = vs; next = at + length (printed (chained m f) vs) })
       chained-is part m vs h a stop =
           repeated-here part t c (λ k. chained k f) at m (omega (arith, far m vs h, a.within)) going (ap (stops t c) all ∙ ap not stop) ∙ all
         where
-          all : reading part t (chained m f) at ≡ given (record { values = vs; next = at + length (printed (chained m f) vs) })
+          all : reading part t (chained m f) at ≡ Ok (record { values = vs; next = at + length (printed (chained m f) vs) })
           all = reading-is part t (chained m f) at vs h a
 
           going : (j : ℕ) → j < m → stops t c (reading part t (chained j f) at) ≡ true → ⊥
@@ -132,11 +133,11 @@ module _ (f : ℕ → List ℕ → Format) where
               true≢false (sym e ∙ (ap (stops t c) (reading-is part t (chained j f) at r.values r.fits r.here) ∙ ap not (r.next l)))
 
       -- what was read stands there, and no further step begins
-      pub chained-was : (part : Part) (w : Found) → at ≤ length t → repeated part t c (λ k. chained k f) at ≡ given w → Read t (chained (repeats part t c (λ k. chained k f) at) f) at w
+      pub chained-was : (part : Part) (w : Found) → at ≤ length t → repeated part t c (λ k. chained k f) at ≡ Ok w → Read t (chained (repeats part t c (λ k. chained k f) at) f) at w
       unfolding repeated
       chained-was part w h e = reading-was part t (chained (repeats part t c (λ k. chained k f) at) f) at w h e
 
-      pub chained-end : (part : Part) (w : Found) → at ≤ length t → repeated part t c (λ k. chained k f) at ≡ given w → stands t c w.next ≡ false
+      pub chained-end : (part : Part) (w : Found) → at ≤ length t → repeated part t c (λ k. chained k f) at ≡ Ok w → stands t c w.next ≡ false
       unfolding repeated repeats
       chained-end part w h e = of-not (stands t c w.next) (sym (ap (stops t c) e) ∙ least-passes (length t + 2) (λ k. stops t c (reading part t (chained k f) at)) (omega (arith, few, u.here.within)))
         where

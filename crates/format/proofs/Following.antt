@@ -1,4 +1,5 @@
 -- One format after another, as the code reads them: after a fixed text, and after numbers that are at the start of a slice. Assumes nothing.
+use Rattle.std.specs.Prelude.{Result, Ok, Err}
 use mathlib.Core.Path.{◌≡◌, refl, ap, sym, subst, ◌∙◌}
 use mathlib.Core.List.{List, [], ◌∷◌, ◌++◌}
 use Prim.Native.Nat.{ℕ, ◌-◌, ◌≤◌, ◌<◌}
@@ -7,56 +8,52 @@ use lib.ListN.{length, get_or, take, drop, length-append}
 use borrow.Rule.Slice.PartMut.{same_len_mid}
 use Rattle.slices.specs.declared.Part.{Part}
 use Rattle.slices.specs.declared.Refusal.{Refusal}
-use Rattle.slices.specs.Refusals.{Result, given, refused}
 use Rattle.slices.proofs.Refusals.{never-given}
+use Rattle.numbers.specs.declared.Number.{Number}
 use Rattle.slices.specs.Filling.{written}
 use Rattle.slices.proofs.Tables.{get_or-first}
 use Rattle.slices.proofs.Filling.{Begun, begun_more, written-front}
-use Rattle.format.specs.declared.Step.{Step}
-use Rattle.format.specs.declared.Step.TheVariants.{Next, Refused}
-use Rattle.format.specs.declared.Cell.{Cell}
-use Rattle.format.specs.declared.Cell.TheVariants as cell
 use Rattle.format.specs.Format.{Format, Found, after, reading, Fits, seq}
-use Rattle.format.specs.Steps.{placed, step_says, cell_says, Reads}
+use Rattle.format.specs.Steps.{placed, cell_says, Reads}
 use Rattle.format.proofs.Results.{chain, after_none, after_was}
 use Rattle.format.proofs.Sequences.{onward, reading-seq}
 use Rattle.format.proofs.Inverse.{reading-was}
 use Rattle.format.proofs.Steps.{placed-refused, placed-given}
 use Rattle.format.proofs.Fixed.{Fixed}
 
-pub reads-refused : {old new : List ℕ} {x : Result Found} {r : Refusal} → length new ≡ length old → x ≡ refused r → Reads x old new (Refused r)
+pub reads-refused : {old new : List ℕ} {x : Result Found Refusal} {r : Refusal} → length new ≡ length old → x ≡ Err r → Reads x old new (Err r)
 reads-refused l e = record { says = ap placed (sym e); same = l; cells = λ w d. absurd (never-given (sym e ∙ d)) }
 
-pub reads_as : {x y : Result Found} {old new : List ℕ} {r : Step} → x ≡ y → Reads y old new r → Reads x old new r
-reads_as {old = old} {new = new} {r = r} e h = subst (λ (z : Result Found). Reads z old new r) (sym e) h
+pub reads_as : {x y : Result Found Refusal} {old new : List ℕ} {r : Result ℕ Refusal} → x ≡ y → Reads y old new r → Reads x old new r
+reads_as {old = old} {new = new} {r = r} e h = subst (λ (z : Result Found Refusal). Reads z old new r) (sym e) h
 
-placed-after : (d : List ℕ) (x : Result Found) → placed (after d x) ≡ placed x
-placed-after d (given w) = refl
-placed-after d (refused r) = refl
+placed-after : (d : List ℕ) (x : Result Found Refusal) → placed (after d x) ≡ placed x
+placed-after d (Ok w) = refl
+placed-after d (Err r) = refl
 
 module _ (part : Part) (t : List ℕ) (f : Format) (at : ℕ) where
-  read-within : {w : Found} → at ≤ length t → reading part t f at ≡ given w → w.next ≤ length t
+  read-within : {w : Found} → at ≤ length t → reading part t f at ≡ Ok w → w.next ≤ length t
   read-within {w} h e = let r = reading-was part t f at w h e in omega (arith, r.next, r.here.within)
 
   module _ (g : List ℕ → Format) where
     -- a part that reads as something else
-    seq-is : {r : Result Found} → reading part t f at ≡ r → reading part t (seq f g) at ≡ chain r (onward part t g)
-    seq-is e = reading-seq part t f g at ∙ ap (λ (r : Result Found). chain r (onward part t g)) e
+    seq-is : {r : Result Found Refusal} → reading part t f at ≡ r → reading part t (seq f g) at ≡ chain r (onward part t g)
+    seq-is e = reading-seq part t f g at ∙ ap (λ (r : Result Found Refusal). chain r (onward part t g)) e
 
-    pub seq-refused : {x : Refusal} → reading part t f at ≡ refused x → reading part t (seq f g) at ≡ refused x
+    pub seq-refused : {x : Refusal} → reading part t f at ≡ Err x → reading part t (seq f g) at ≡ Err x
     seq-refused e = seq-is e
 
     pub seq-as : (k : Format) (to : ℕ) → reading part t f at ≡ reading part t k to → reading part t (seq f g) at ≡ reading part t (seq k g) to
     seq-as k to e = seq-is e ∙ sym (reading-seq part t k g to)
 
 -- A step that reads a fixed text, and what follows it.
-module _ (part : Part) (t : List ℕ) {x : List ℕ} {f : Format} (a : Fixed f x) (g : List ℕ → Format) (at : ℕ) {s : Step} (d : step_says s ≡ placed (reading part t f at)) where
-  pub step-refused : {r : Refusal} → s ≡ Refused r → reading part t (seq f g) at ≡ refused r
-  step-refused e = seq-refused part t f at g (placed-refused (reading part t f at) (sym d ∙ ap step_says e))
+module _ (part : Part) (t : List ℕ) {x : List ℕ} {f : Format} (a : Fixed f x) (g : List ℕ → Format) (at : ℕ) {s : Result ℕ Refusal} (d : s ≡ placed (reading part t f at)) where
+  pub step-refused : {r : Refusal} → s ≡ Err r → reading part t (seq f g) at ≡ Err r
+  step-refused e = seq-refused part t f at g (placed-refused (reading part t f at) (sym d ∙ e))
 
-  module _ {e : ℕ} (h : at ≤ length t) (n : s ≡ Next e) where
-    found : (w : Found) × (reading part t f at ≡ given w) × (w.next ≡ e)
-    found = placed-given (reading part t f at) (sym d ∙ ap step_says n)
+  module _ {e : ℕ} (h : at ≤ length t) (n : s ≡ Ok e) where
+    found : (w : Found) × (reading part t f at ≡ Ok w) × (w.next ≡ e)
+    found = placed-given (reading part t f at) (sym d ∙ n)
 
     pub step-within : e ≤ length t
     step-within = subst (λ (m : ℕ). m ≤ length t) found.2 (read-within part t f at h found.1)
@@ -64,40 +61,40 @@ module _ (part : Part) (t : List ℕ) {x : List ℕ} {f : Format} (a : Fixed f x
     none : found.0.values ≡ []
     none = a.none found.0.values (reading-was part t f at found.0 h found.1).fits
 
-    pub step-read : reading part t f at ≡ given (record { values = []; next = e })
-    step-read = found.1 ∙ (λ i. given (record { values = none i; next = found.2 i }))
+    pub step-read : reading part t f at ≡ Ok (record { values = []; next = e })
+    step-read = found.1 ∙ (λ i. Ok (record { values = none i; next = found.2 i }))
 
     pub step_given : reading part t (seq f g) at ≡ reading part t (g []) e
     step_given = seq-is part t f at g step-read ∙ sym (after_none (reading part t (g []) e))
 
 -- A cell that was read, and what follows it.
-module _ (part : Part) (t : List ℕ) (f : Format) (at : ℕ) {x : Cell} (d : cell_says x ≡ reading part t f at) where
-  pub cell-within : {v e : ℕ} → at ≤ length t → x ≡ cell.Read v e → e ≤ length t
+module _ (part : Part) (t : List ℕ) (f : Format) (at : ℕ) {x : Result Number Refusal} (d : cell_says x ≡ reading part t f at) where
+  pub cell-within : {v e : ℕ} → at ≤ length t → x ≡ Ok (record { value = v; next = e }) → e ≤ length t
   cell-within h k = read-within part t f at h (sym d ∙ ap cell_says k)
 
   module _ (g : List ℕ → Format) where
-    pub cell-lost : {r : Refusal} → x ≡ cell.Refused r → reading part t (seq f g) at ≡ refused r
+    pub cell-lost : {r : Refusal} → x ≡ Err r → reading part t (seq f g) at ≡ Err r
     cell-lost k = seq-refused part t f at g (sym d ∙ ap cell_says k)
 
-    pub cell-got : {v e : ℕ} → x ≡ cell.Read v e → reading part t (seq f g) at ≡ after (v ∷ []) (reading part t (g (v ∷ [])) e)
+    pub cell-got : {v e : ℕ} → x ≡ Ok (record { value = v; next = e }) → reading part t (seq f g) at ≡ after (v ∷ []) (reading part t (g (v ∷ [])) e)
     cell-got k = seq-is part t f at g (sym d ∙ ap cell_says k)
 
 -- Numbers that were read to the start of a slice, up to the place e.
 pub record Got (part : Part) (t : List ℕ) (f : Format) (at : ℕ) (old new : List ℕ) (e : ℕ) : Type 0 where
   pub found : Found
-  pub says : reading part t f at ≡ given found
+  pub says : reading part t f at ≡ Ok found
   pub next : found.next ≡ e
   pub fits : Fits f found.values
   pub begun : Begun found.values old new
   pub inside : e ≤ length t
 
-module _ (part : Part) (t : List ℕ) (f : Format) (at : ℕ) {old new : List ℕ} {r : Step} (d : Reads (reading part t f at) old new r) where
-  pub lost : {x : Refusal} → r ≡ Refused x → reading part t f at ≡ refused x
-  lost e = placed-refused (reading part t f at) (sym d.says ∙ ap step_says e)
+module _ (part : Part) (t : List ℕ) (f : Format) (at : ℕ) {old new : List ℕ} {r : Result ℕ Refusal} (d : Reads (reading part t f at) old new r) where
+  pub lost : {x : Refusal} → r ≡ Err x → reading part t f at ≡ Err x
+  lost e = placed-refused (reading part t f at) (sym d.says ∙ e)
 
-  pub got : {e : ℕ} → at ≤ length t → r ≡ Next e → Got part t f at old new e
+  pub got : {e : ℕ} → at ≤ length t → r ≡ Ok e → Got part t f at old new e
   got h n =
-      let g = placed-given (reading part t f at) (sym d.says ∙ ap step_says n) in
+      let g = placed-given (reading part t f at) (sym d.says ∙ n) in
       record {
         found = g.0;
         says = g.1;
@@ -120,7 +117,7 @@ module _ {part : Part} {t : List ℕ} {f : Format} {at : ℕ} {old new : List �
   abbrev vs : List ℕ
   vs = w.found.values
 
-  pub got-then : {last : List ℕ} {r : Step} → ((u : Found) → reading part t (seq f g) at ≡ given u → length u.values ≤ length old)
+  pub got-then : {last : List ℕ} {r : Result ℕ Refusal} → ((u : Found) → reading part t (seq f g) at ≡ Ok u → length u.values ≤ length old)
       → Reads (reading part t (g w.found.values) e) (take (length new - k) (drop k new)) last r
       → Reads (reading part t (seq f g) at) old (take k new ++ (last ++ drop (length new - k) (drop k new))) r
   got-then {last} {r} room h = record {
@@ -133,7 +130,7 @@ module _ {part : Part} {t : List ℕ} {f : Format} {at : ℕ} {old new : List �
         ∙ ap (λ (v : List ℕ). written v old) (sym a.2);
   }
     where
-      x : Result Found
+      x : Result Found Refusal
       x = reading part t (g vs) e
 
       whole : reading part t (seq f g) at ≡ after vs x

@@ -1,5 +1,8 @@
 -- A format's reader and printer are inverse: what is read is the text of the numbers found, and the text of numbers that fit is
 -- read. Assumes nothing.
+use Rattle.slices.specs.declared.Reason.TheVariants.{OffLayout}
+use Rattle.std.specs.Prelude.{Result, Ok, Err}
+use Rattle.slices.specs.declared.Refusal.{Refusal}
 use mathlib.Core.Path.{◌≡◌, refl, ap, ap₂, sym, subst, ◌∙◌}
 use mathlib.Core.Bool.{Bool, true, false, cond, ◌&&◌}
 use mathlib.Core.List.{List, [], ◌∷◌, ◌++◌}
@@ -9,13 +12,11 @@ use lib.Dec.{eqb, ltb}
 use lib.ListN.{length, get_or, length-append}
 use borrow.Author.Tests.{ltb-true, lt-ltb, le-ltb, eqb-true, eq-eqb, ne_eqb}
 use Rattle.slices.specs.declared.Part.{Part}
-use Rattle.slices.specs.Refusals.{Result, given}
 use Rattle.slices.proofs.Refusals.{never-given, given-was}
 use Rattle.slices.specs.Scans.{outside}
 use Rattle.slices.proofs.Scans.{inside, not-outside}
 use Rattle.slices.proofs.Tests.{and_left, and_right, both}
 use Rattle.numbers.specs.declared.Number.{Number}
-use Rattle.numbers.specs.declared.Number.TheVariants.{Good, Refused}
 use Rattle.numbers.specs.Digits.{digits_of, field}
 use Rattle.numbers.specs.Numerals.{number_at_value}
 use Rattle.numbers.proofs.Canonical.{NumberRead, number_is, number-was}
@@ -57,13 +58,13 @@ pub record Read (t : List ℕ) (f : Format) (at : ℕ) (w : Found) : Type 0 wher
   pub next : w.next ≡ at + length (printed f w.values)
 
 module _ (part : Part) (t : List ℕ) where
-  pub reading-was : (f : Format) (at : ℕ) (w : Found) → at ≤ length t → reading part t f at ≡ given w → Read t f at w
+  pub reading-was : (f : Format) (at : ℕ) (w : Found) → at ≤ length t → reading part t f at ≡ Ok w → Read t f at w
   unfolding reading printed Fits
   reading-was done at w h d = subst (Read t done at) (given-was d) (record { fits = tt; here = at-nil t at h; next = omega arith })
   reading-was (byte c f) at w h d = by (stands t c at) refl d (reading-was f (at + 1) w)
     where
-      by : (b : Bool) → stands t c at ≡ b → cond b (reading part t f (at + 1)) (refused_at 11 part at) ≡ given w
-          → (at + 1 ≤ length t → reading part t f (at + 1) ≡ given w → Read t f (at + 1) w) → Read t (byte c f) at w
+      by : (b : Bool) → stands t c at ≡ b → cond b (reading part t f (at + 1)) (refused_at OffLayout part at) ≡ Ok w
+          → (at + 1 ≤ length t → reading part t f (at + 1) ≡ Ok w → Read t f (at + 1) w) → Read t (byte c f) at w
       by false e k ih = absurd (never-given k)
       by true e k ih =
           let one = standing t c at e in
@@ -75,11 +76,11 @@ module _ (part : Part) (t : List ℕ) where
           }
   reading-was (num c end f) at w h d = by (number_at_value part t at) refl d (λ v n g. reading-was (f v) n g)
     where
-      go : ℕ → ℕ → Result Found
+      go : ℕ → ℕ → Result Found Refusal
       go v n = after (v ∷ []) (reading part t (f v) n)
 
-      good : (v n : ℕ) → NumberRead t at v n → outside (c v).low (c v).limit v ≡ false → stands t end n ≡ true → ((g : Found) → n + 1 ≤ length t → reading part t (f v) (n + 1) ≡ given g → Read t (f v) (n + 1) g)
-          → go v (n + 1) ≡ given w → Read t (num c end f) at w
+      good : (v n : ℕ) → NumberRead t at v n → outside (c v).low (c v).limit v ≡ false → stands t end n ≡ true → ((g : Found) → n + 1 ≤ length t → reading part t (f v) (n + 1) ≡ Ok g → Read t (f v) (n + 1) g)
+          → go v (n + 1) ≡ Ok w → Read t (num c end f) at w
       good v n x o s ih k =
           let one = standing t end n s in
           let a = after_was (v ∷ []) (reading part t (f v) (n + 1)) k in
@@ -94,29 +95,32 @@ module _ (part : Part) (t : List ℕ) where
           subst (λ (l : List ℕ). Read t (num c end f) at (record { values = l; next = w.next })) (sym a.2) (record { fits = (takes, r.fits); here = both; next = long })
 
       ranged : (v n : ℕ) → NumberRead t at v n → (o : Bool) → outside (c v).low (c v).limit v ≡ o → (b : Bool) → stands t end n ≡ b
-          → ((g : Found) → n + 1 ≤ length t → reading part t (f v) (n + 1) ≡ given g → Read t (f v) (n + 1) g)
-          → cond o (refused_at (c v).number part at) (cond b (go v (n + 1)) (refused_at 11 part n)) ≡ given w → Read t (num c end f) at w
+          → ((g : Found) → n + 1 ≤ length t → reading part t (f v) (n + 1) ≡ Ok g → Read t (f v) (n + 1) g)
+          → cond o (refused_at (c v).reason part at) (cond b (go v (n + 1)) (refused_at OffLayout part n)) ≡ Ok w → Read t (num c end f) at w
       ranged v n x true o b e ih k = absurd (never-given k)
       ranged v n x false o false e ih k = absurd (never-given k)
       ranged v n x false o true e ih k = good v n x o e ih k
 
-      by : (x : Number) → number_at_value part t at ≡ x → judged part t c end at x go ≡ given w → ((v n : ℕ) (g : Found) → n ≤ length t → reading part t (f v) n ≡ given g → Read t (f v) n g) → Read t (num c end f) at w
-      by (Refused r) e k ih = absurd (never-given k)
-      by (Good v n) e k ih = ranged v n (number-was part t at v n e) (outside (c v).low (c v).limit v) refl (stands t end n) refl (λ g. ih v (n + 1) g) k
+      by : (x : Result Number Refusal) → number_at_value part t at ≡ x → judged part t c end at x go ≡ Ok w → ((v n : ℕ) (g : Found) → n ≤ length t → reading part t (f v) n ≡ Ok g → Read t (f v) n g) → Read t (num c end f) at w
+      by (Err r) e k ih = absurd (never-given k)
+      by (Ok m) e k ih =
+          let v = m.value in
+          let n = m.next in
+          ranged v n (number-was part t at v n e) (outside (c v).low (c v).limit v) refl (stands t end n) refl (λ g. ih v (n + 1) g) k
 
-  pub reading-is : (f : Format) (at : ℕ) (vs : List ℕ) → Fits f vs → At t at (printed f vs) → reading part t f at ≡ given (record { values = vs; next = at + length (printed f vs) })
+  pub reading-is : (f : Format) (at : ℕ) (vs : List ℕ) → Fits f vs → At t at (printed f vs) → reading part t f at ≡ Ok (record { values = vs; next = at + length (printed f vs) })
   unfolding reading printed Fits
-  reading-is done at [] h a = let z : at ≡ at + 0 = omega arith in ap (λ (n : ℕ). given (record { values = []; next = n })) z
+  reading-is done at [] h a = let z : at ≡ at + 0 = omega arith in ap (λ (n : ℕ). Ok (record { values = []; next = n })) z
   reading-is done at (v ∷ vs) h a = absurd h
   reading-is (byte c f) at vs h a =
       let e : at + 1 + length (printed f vs) ≡ at + suc (length (printed f vs)) = omega arith in
-      ap (λ (b : Bool). cond b (reading part t f (at + 1)) (refused_at 11 part at)) (stands-there t (printed f vs) c at a)
-      ∙ (reading-is f (at + 1) vs h (at_right t at (c ∷ []) (printed f vs) a) ∙ ap (λ (n : ℕ). given (record { values = vs; next = n })) e)
+      ap (λ (b : Bool). cond b (reading part t f (at + 1)) (refused_at OffLayout part at)) (stands-there t (printed f vs) c at a)
+      ∙ (reading-is f (at + 1) vs h (at_right t at (c ∷ []) (printed f vs) a) ∙ ap (λ (n : ℕ). Ok (record { values = vs; next = n })) e)
   reading-is (num c end f) at [] h a = absurd h
   reading-is (num c end f) at (v ∷ vs) h a =
-      ap (λ (x : Number). judged part t c end at x (λ v next. after (v ∷ []) (reading part t (f v) next))) (number_is part t at v end h.0.small h.0.ends number)
-      ∙ (ap₂ (λ (o b : Bool). cond o (refused_at (c v).number part at) (cond b (after (v ∷ []) (reading part t (f v) (n + 1))) (refused_at 11 part n))) (not-outside (c v).low (c v).limit v h.0.low h.0.high) (stands-there t x end n rest)
-      ∙ (ap (after (v ∷ [])) (reading-is (f v) (n + 1) vs h.1 (at_right t n (end ∷ []) x rest)) ∙ ap (λ (k : ℕ). given (record { values = v ∷ vs; next = k })) long))
+      ap (λ (x : Result Number Refusal). judged part t c end at x (λ v next. after (v ∷ []) (reading part t (f v) next))) (number_is part t at v end h.0.small h.0.ends reason)
+      ∙ (ap₂ (λ (o b : Bool). cond o (refused_at (c v).reason part at) (cond b (after (v ∷ []) (reading part t (f v) (n + 1))) (refused_at OffLayout part n))) (not-outside (c v).low (c v).limit v h.0.low h.0.high) (stands-there t x end n rest)
+      ∙ (ap (after (v ∷ [])) (reading-is (f v) (n + 1) vs h.1 (at_right t n (end ∷ []) x rest)) ∙ ap (λ (k : ℕ). Ok (record { values = v ∷ vs; next = k })) long))
     where
       x : List ℕ
       x = printed (f v) vs
@@ -127,8 +131,8 @@ module _ (part : Part) (t : List ℕ) where
       rest : At t n (end ∷ x)
       rest = at_right t at (digits_of v) (end ∷ x) a
 
-      number : At t at (field v end)
-      number = at-append t at (digits_of v) (end ∷ []) (at_left t at (digits_of v) (end ∷ x) a) (at_left t n (end ∷ []) x rest)
+      reason : At t at (field v end)
+      reason = at-append t at (digits_of v) (end ∷ []) (at_left t at (digits_of v) (end ∷ x) a) (at_left t n (end ∷ []) x rest)
 
       long : n + 1 + length x ≡ at + length (digits_of v ++ (end ∷ x))
       long = omega (arith, length-append (digits_of v) (end ∷ x))

@@ -1,4 +1,8 @@
 -- Repetition without a known count, as a loop reads it. Assumes nothing.
+use Rattle.slices.specs.declared.Reason.{Reason}
+use Rattle.slices.specs.declared.Reason.TheVariants.{OffLayout}
+use Rattle.std.specs.Prelude.{Result, Ok, Err}
+use Rattle.format.specs.declared.Extent.{Extent}
 use mathlib.Core.Path.{◌≡◌, refl, ap, sym, subst, ◌∙◌}
 use mathlib.Core.Bool.{Bool, true, false, cond}
 use mathlib.Core.List.{List, [], ◌∷◌, ◌++◌}
@@ -9,16 +13,14 @@ use lib.ListN.{length, get_or, length-append}
 use borrow.Author.Tests.{eqb-true, eqb-false}
 use Rattle.slices.specs.declared.Part.{Part}
 use Rattle.slices.specs.declared.Refusal.{Refusal}
-use Rattle.slices.specs.Refusals.{Result, given, refused}
 use Rattle.slices.proofs.Refusals.{never-given, given-was, mapped-given, mapped-refused}
 use Rattle.numbers.specs.Numerals.{number_at_value}
 use Rattle.numbers.specs.Storing.{Stored}
 use Rattle.numbers.proofs.Stores.{stored-none, stored-then, stored-length}
 use Rattle.format.specs.declared.Column.{Column}
-use Rattle.format.specs.declared.Lines.{Lines}
 use Rattle.format.specs.Format.{Format, Found, after, refused_at, stands, reading, printed, Takes, Fits, seq, literal}
 use Rattle.format.specs.Rows.{choice, cell}
-use Rattle.format.specs.Lines.{labelled, lines, lines_at, closing, Extent, extent, lines_say, LinesRead}
+use Rattle.format.specs.Lines.{labelled, lines, lines_at, closing, extent, LinesRead}
 use Rattle.format.specs.Steps.{peeked}
 use Rattle.format.proofs.Results.{chain}
 use Rattle.format.proofs.Sequences.{onward, reading-seq}
@@ -43,9 +45,9 @@ labelled-peeked part t word c end at h =
     one : Column
     one = c (peeked (number_at_value part t (at + length word)))
 
-    by : (x : Result Found) → reading part t (literal word) at ≡ x → chain x (onward part t (λ vs. choice c end)) ≡ chain x (onward part t (λ vs. cell one end))
-    by (refused r) e = refl
-    by (given w) e =
+    by : (x : Result Found Refusal) → reading part t (literal word) at ≡ x → chain x (onward part t (λ vs. choice c end)) ≡ chain x (onward part t (λ vs. cell one end))
+    by (Err r) e = refl
+    by (Ok w) e =
         let r = reading-was part t (literal word) at w h e in
         let none = (fixed-literal word).none w.values r.fits in
         let text : printed (literal word) w.values ≡ word = ap (printed (literal word)) none ∙ (fixed-literal word).text in
@@ -56,17 +58,17 @@ module _ (part : Part) (t word : List ℕ) (c : ℕ → Column) (end at : ℕ) w
   chosen : {column : Column} → at ≤ length t → column ≡ c (peeked (number_at_value part t (at + length word))) → reading part t (labelled word (λ v. column) end) at ≡ reading part t (labelled word c end) at
   chosen h e = ap (λ (k : Column). reading part t (labelled word (λ v. k) end) at) e ∙ sym (labelled-peeked part t word c end at h)
 
-  pub labelled-chosen : {column : Column} {y : Result Found} → at ≤ length t → column ≡ c (peeked (number_at_value part t (at + length word)))
+  pub labelled-chosen : {column : Column} {y : Result Found Refusal} → at ≤ length t → column ≡ c (peeked (number_at_value part t (at + length word)))
       → y ≡ reading part t (labelled word (λ v. column) end) at → y ≡ reading part t (labelled word c end) at
   labelled-chosen h e d = d ∙ chosen h e
 
   -- and what follows
-  pub chosen-then : {column : Column} {y : Result Found} (g : List ℕ → Format) → at ≤ length t → column ≡ c (peeked (number_at_value part t (at + length word)))
+  pub chosen-then : {column : Column} {y : Result Found Refusal} (g : List ℕ → Format) → at ≤ length t → column ≡ c (peeked (number_at_value part t (at + length word)))
       → y ≡ reading part t (seq (labelled word (λ v. column) end) g) at → y ≡ reading part t (seq (labelled word c end) g) at
   chosen-then {column} g h e d =
       d
       ∙ (reading-seq part t (labelled word (λ v. column) end) g at
-      ∙ (ap (λ (x : Result Found). chain x (onward part t g)) (chosen h e) ∙ sym (reading-seq part t (labelled word c end) g at)))
+      ∙ (ap (λ (x : Result Found Refusal). chain x (onward part t g)) (chosen h e) ∙ sym (reading-seq part t (labelled word c end) g at)))
 
 -- i lines were read, to the place p; their numbers are stored.
 pub record Lined (part : Part) (t word : List ℕ) (c : Column) (at : ℕ) (old new : List ℕ) (p i : ℕ) : Type 0 where
@@ -85,14 +87,14 @@ module _ {part : Part} {t word : List ℕ} {c : Column} {at : ℕ} {old new : Li
   abbrev line : Format
   line = labelled word (λ v. c) 10
 
-  line-was : {w : Found} → reading part t line p ≡ given w → Read t line p w
+  line-was : {w : Found} → reading part t line p ≡ Ok w → Read t line p w
   line-was {w} e = reading-was part t line p w s.going.inside e
 
-  pub line-takes : {v e : ℕ} → reading part t (labelled word (λ v. c) 10) p ≡ given (record { values = v ∷ []; next = e }) → Takes c 10 v
+  pub line-takes : {v e : ℕ} → reading part t (labelled word (λ v. c) 10) p ≡ Ok (record { values = v ∷ []; next = e }) → Takes c 10 v
   unfolding labelled Fits
   line-takes {v} d = (then-was (fixed-literal word) (λ us. cell c 10) (v ∷ []) (line-was d).fits).0
 
-  pub lined-more : {v e : ℕ} {next : List ℕ} {r : ℕ} → 0 < length word → stands t (get_or word 0 0) p ≡ true → reading part t (labelled word (λ v. c) 10) p ≡ given (record { values = v ∷ []; next = e }) → Stored new i (v ∷ []) next r
+  pub lined-more : {v e : ℕ} {next : List ℕ} {r : ℕ} → 0 < length word → stands t (get_or word 0 0) p ≡ true → reading part t (labelled word (λ v. c) 10) p ≡ Ok (record { values = v ∷ []; next = e }) → Stored new i (v ∷ []) next r
       → Lined part t word c at old next e r
   lined-more {v} {e} {next} {r} h g d x = subst (Lined part t word c at old next e) (sym x.next) (record {
     values = s.values ++ (v ∷ []);
@@ -104,9 +106,9 @@ module _ {part : Part} {t word : List ℕ} {c : Column} {at : ℕ} {old new : Li
       w = line-was d
 
   -- where the next one does not begin
-  pub lined-all : {r : Lines} → stands t (get_or word 0 0) p ≡ false → lines_say r ≡ given (record { count = i; next = p }) → LinesRead (lines_at part t word c at) old new r
+  pub lined-all : {r : Result Extent Refusal} → stands t (get_or word 0 0) p ≡ false → r ≡ Ok (record { count = i; next = p }) → LinesRead (lines_at part t word c at) old new r
   lined-all {r} g d = record {
-    says = d ∙ (ap (λ (n : ℕ). given (record { count = n; next = p })) count ∙ ap extent (sym all));
+    says = d ∙ (ap (λ (n : ℕ). Ok (record { count = n; next = p })) count ∙ ap extent (sym all));
     same = stored-length s.stored;
     cells = λ w k. subst (λ (z : Found). Stored old 0 z.values new (length z.values)) (given-was (sym all ∙ k)) (subst (Stored old 0 s.values new) count s.stored);
   }
@@ -114,39 +116,39 @@ module _ {part : Part} {t word : List ℕ} {c : Column} {at : ℕ} {old new : Li
       count : i ≡ length s.values
       count = omega (arith, s.stored.next)
 
-      all : lines_at part t word c at ≡ given (record { values = s.values; next = p })
+      all : lines_at part t word c at ≡ Ok (record { values = s.values; next = p })
       all = going-all s.going g
 
-  pub lined-refused : {x : Refusal} {last : List ℕ} {r : Lines} → stands t (get_or word 0 0) p ≡ true → reading part t (labelled word (λ v. c) 10) p ≡ refused x → lines_say r ≡ refused x → length last ≡ length old → LinesRead (lines_at part t word c at) old last r
+  pub lined-refused : {x : Refusal} {last : List ℕ} {r : Result Extent Refusal} → stands t (get_or word 0 0) p ≡ true → reading part t (labelled word (λ v. c) 10) p ≡ Err x → r ≡ Err x → length last ≡ length old → LinesRead (lines_at part t word c at) old last r
   lined-refused {x} {last} {r} g e d l = record { says = d ∙ ap extent (sym all); same = l; cells = λ w k. absurd (never-given (sym all ∙ k)) }
     where
-      all : lines_at part t word c at ≡ refused x
+      all : lines_at part t word c at ≡ Err x
       all = going-refused s.going g (each_next part t (λ j. line) at i s.going.says e)
 
 -- what the lines were, from what is said of them
 abbrev counts : Found → Extent
 counts w = record { count = length w.values; next = w.next }
 
-pub lines-refused : (x : Result Found) {r : Refusal} → extent x ≡ refused r → x ≡ refused r
+pub lines-refused : (x : Result Found Refusal) {r : Refusal} → extent x ≡ Err r → x ≡ Err r
 lines-refused x e = mapped-refused counts x e
 
-pub lines-counted : (x : Result Found) {n p : ℕ} → extent x ≡ given (record { count = n; next = p }) → (w : Found) × (x ≡ given w) × (length w.values ≡ n) × (w.next ≡ p)
+pub lines-counted : (x : Result Found Refusal) {n p : ℕ} → extent x ≡ Ok (record { count = n; next = p }) → (w : Found) × (x ≡ Ok w) × (length w.values ≡ n) × (w.next ≡ p)
 lines-counted x e = let g = mapped-given counts x e in (g.0, g.1, ap (λ (z : Extent). z.count) g.2, ap (λ (z : Extent). z.next) g.2)
 
 -- What the last lines x were, where the text ends with some, and b is the answer that they were turned into.
-pub record Closed {B : Type 0} (t : List ℕ) (f : List ℕ → B) (x : Result Found) (b : B) : Type 0 where
+pub record Closed {B : Type 0} (t : List ℕ) (f : List ℕ → B) (x : Result Found Refusal) (b : B) : Type 0 where
   pub found : Found
-  pub says : x ≡ given found
+  pub says : x ≡ Ok found
   pub answer : b ≡ f found.values
   pub end : found.next ≡ length t
   pub some : length found.values ≡ 0 → ⊥
 
-pub closing-was : {B : Type 0} (part : Part) (t : List ℕ) (number : ℕ) (f : List ℕ → B) (x : Result Found) {b : B} → closing part t number f x ≡ given b → Closed t f x b
-closing-was part t number f (refused r) e = absurd (never-given e)
-closing-was {B} part t number f (given w) {b} e = by (eqb w.next (length t)) refl (eqb (length w.values) 0) refl e
+pub closing-was : {B : Type 0} (part : Part) (t : List ℕ) (reason : Reason) (f : List ℕ → B) (x : Result Found Refusal) {b : B} → closing part t reason f x ≡ Ok b → Closed t f x b
+closing-was part t reason f (Err r) e = absurd (never-given e)
+closing-was {B} part t reason f (Ok w) {b} e = by (eqb w.next (length t)) refl (eqb (length w.values) 0) refl e
   where
     by : (p : Bool) → eqb w.next (length t) ≡ p → (q : Bool) → eqb (length w.values) 0 ≡ q
-        → cond {A = Result B} p (cond q (refused_at number part (length t)) (given (f w.values))) (refused_at 11 part w.next) ≡ given b → Closed t f (given w) b
+        → cond {A = Result B Refusal} p (cond q (refused_at reason part (length t)) (Ok (f w.values))) (refused_at OffLayout part w.next) ≡ Ok b → Closed t f (Ok w) b
     by false d q g k = absurd (never-given k)
     by true d true g k = absurd (never-given k)
     by true d false g k = record { found = w; says = refl; answer = sym (given-was k); end = eqb-true w.next (length t) d; some = eqb-false (length w.values) 0 g }

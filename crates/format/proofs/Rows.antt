@@ -1,4 +1,5 @@
 -- The numbers of a row, and its line. Assumes nothing.
+use Rattle.slices.specs.declared.Reason.TheVariants.{OutOfTurn}
 use mathlib.Core.Path.{◌≡◌, refl, ap, sym, subst, ◌∙◌}
 use mathlib.Core.Bool.{Bool, true, false, cond}
 use mathlib.Core.List.{List, [], ◌∷◌, ◌++◌}
@@ -22,10 +23,10 @@ pub numbered-count : (r : Row) (turn i : ℕ) → (numbered r turn i).count ≡ 
 numbered-count r turn i = by (eqb turn 0)
   where
     one : Row
-    one = record { first = record { low = i; limit = i + 1; number = 12 }; second = r.second; third = r.third; rest = r.rest; count = r.count }
+    one = record { first = record { low = i; limit = i + 1; reason = OutOfTurn }; second = r.second; third = r.third; rest = r.rest; count = r.count }
 
     two : Row
-    two = record { first = r.first; second = record { low = i; limit = i + 1; number = 12 }; third = r.third; rest = r.rest; count = r.count }
+    two = record { first = r.first; second = record { low = i; limit = i + 1; reason = OutOfTurn }; third = r.third; rest = r.rest; count = r.count }
 
     by : (b : Bool) → (cond b one two).count ≡ r.count
     by true = refl

@@ -1,15 +1,16 @@
 -- One format after another: reading, printing and fitting go piece by piece. Assumes nothing.
+use Rattle.slices.specs.declared.Reason.TheVariants.{OffLayout}
+use Rattle.std.specs.Prelude.{Result, Ok, Err}
+use Rattle.slices.specs.declared.Refusal.{Refusal}
 use mathlib.Core.Path.{◌≡◌, refl, ap, sym, ◌∙◌}
 use mathlib.Core.Bool.{Bool, true, false, cond}
 use mathlib.Core.List.{List, [], ◌∷◌, ◌++◌, append_assoc}
 use Prim.Native.Nat.{ℕ, zero, suc, ◌+◌, ◌<◌}
 use native.Mathlib.Omega.{arith}
 use Rattle.slices.specs.declared.Part.{Part}
-use Rattle.slices.specs.Refusals.{Result, given, refused}
 use Rattle.slices.specs.Scans.{outside}
 use Rattle.slices.specs.Tables.{rows}
 use Rattle.numbers.specs.declared.Number.{Number}
-use Rattle.numbers.specs.declared.Number.TheVariants.{Good, Refused}
 use Rattle.numbers.specs.Digits.{digits_of}
 use Rattle.numbers.specs.Numerals.{number_at_value}
 use Rattle.format.specs.Format.{Format, done, byte, num, Found, after, refused_at, stands, judged, reading, printed, Fits, seq, each}
@@ -17,7 +18,7 @@ use Rattle.format.proofs.Results.{chain, after_none, after-after}
 
 module _ (part : Part) (t : List ℕ) where
   -- the numbers of the first, then the second by them
-  abbrev pub onward : (List ℕ → Format) → Found → Result Found
+  abbrev pub onward : (List ℕ → Format) → Found → Result Found Refusal
   onward g w = after w.values (reading part t (g w.values) w.next)
 
   pub reading-seq : (f : Format) (g : List ℕ → Format) (at : ℕ) → reading part t (seq f g) at ≡ chain (reading part t f at) (onward g)
@@ -26,31 +27,31 @@ module _ (part : Part) (t : List ℕ) where
   reading-seq (byte c f) g at = by (stands t c at) (reading-seq f g (at + 1))
     where
       by : (b : Bool) → reading part t (seq f g) (at + 1) ≡ chain (reading part t f (at + 1)) (onward g)
-          → cond b (reading part t (seq f g) (at + 1)) (refused_at 11 part at) ≡ chain (cond b (reading part t f (at + 1)) (refused_at 11 part at)) (onward g)
+          → cond b (reading part t (seq f g) (at + 1)) (refused_at OffLayout part at) ≡ chain (cond b (reading part t f (at + 1)) (refused_at OffLayout part at)) (onward g)
       by true ih = ih
       by false ih = refl
   reading-seq (num c end f) g at = by (number_at_value part t at) (λ v n. reading-seq (f v) (λ vs. g (v ∷ vs)) n)
     where
-      whole : ℕ → ℕ → Result Found
+      whole : ℕ → ℕ → Result Found Refusal
       whole v n = after (v ∷ []) (reading part t (seq (f v) (λ vs. g (v ∷ vs))) n)
 
-      half : ℕ → ℕ → Result Found
+      half : ℕ → ℕ → Result Found Refusal
       half v n = after (v ∷ []) (reading part t (f v) n)
 
-      inner : (v : ℕ) (r : Result Found) → after (v ∷ []) (chain r (onward (λ vs. g (v ∷ vs)))) ≡ chain (after (v ∷ []) r) (onward g)
-      inner v (given w) = after-after (v ∷ []) w.values (reading part t (g (v ∷ w.values)) w.next)
-      inner v (refused r) = refl
+      inner : (v : ℕ) (r : Result Found Refusal) → after (v ∷ []) (chain r (onward (λ vs. g (v ∷ vs)))) ≡ chain (after (v ∷ []) r) (onward g)
+      inner v (Ok w) = after-after (v ∷ []) w.values (reading part t (g (v ∷ w.values)) w.next)
+      inner v (Err r) = refl
 
       last : (a b : Bool) (v n : ℕ) → whole v (n + 1) ≡ chain (half v (n + 1)) (onward g)
-          → cond a (refused_at (c v).number part at) (cond b (whole v (n + 1)) (refused_at 11 part n)) ≡ chain (cond a (refused_at (c v).number part at) (cond b (half v (n + 1)) (refused_at 11 part n))) (onward g)
+          → cond a (refused_at (c v).reason part at) (cond b (whole v (n + 1)) (refused_at OffLayout part n)) ≡ chain (cond a (refused_at (c v).reason part at) (cond b (half v (n + 1)) (refused_at OffLayout part n))) (onward g)
       last true b v n h = refl
       last false true v n h = h
       last false false v n h = refl
 
-      by : (x : Number) → ((v n : ℕ) → reading part t (seq (f v) (λ vs. g (v ∷ vs))) n ≡ chain (reading part t (f v) n) (onward (λ vs. g (v ∷ vs))))
+      by : (x : Result Number Refusal) → ((v n : ℕ) → reading part t (seq (f v) (λ vs. g (v ∷ vs))) n ≡ chain (reading part t (f v) n) (onward (λ vs. g (v ∷ vs))))
           → judged part t c end at x whole ≡ chain (judged part t c end at x half) (onward g)
-      by (Refused r) ih = refl
-      by (Good v n) ih = last (outside (c v).low (c v).limit v) (stands t end n) v n (ap (after (v ∷ [])) (ih v (n + 1)) ∙ inner v (reading part t (f v) (n + 1)))
+      by (Err r) ih = refl
+      by (Ok m) ih = let v = m.value in let n = m.next in last (outside (c v).low (c v).limit v) (stands t end n) v n (ap (after (v ∷ [])) (ih v (n + 1)) ∙ inner v (reading part t (f v) (n + 1)))
 
 -- the numbers of both fit
 pub fits-seq : (f : Format) (g : List ℕ → Format) (vs ws : List ℕ) → Fits f vs → Fits (g vs) ws → Fits (seq f g) (vs ++ ws)

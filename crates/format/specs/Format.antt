@@ -1,14 +1,17 @@
 -- A format is data: fixed bytes, and numbers each with the byte that ends it, where the column that judges a number,
 -- and what follows it, may depend on it. It is read from left to right, so that what is refused first is refused at the
 -- smallest place. Assumes nothing.
+use Rattle.slices.specs.declared.Reason.{Reason}
+use Rattle.slices.specs.declared.Reason.TheVariants.{OffLayout}
+use Rattle.std.specs.Prelude.{Result, Ok, Err}
+use Rattle.slices.specs.declared.Refusal.{Refusal}
 use Rattle.std.specs.Prelude.{◌≡◌, Bool, true, cond, ◌&&◌, List, [], ◌∷◌, ◌++◌, ℕ, zero, suc, ◌+◌, ◌≤◌, ◌<◌, eqb, ltb}
 use Rattle.std.specs.Prelude.{length, get_or}
 use Prim.Native.Char.{code}
 use Rattle.slices.specs.declared.Part.{Part}
-use Rattle.slices.specs.Refusals.{Result, given, refused}
+use Rattle.slices.specs.Refusals.{mapped}
 use Rattle.slices.specs.Scans.{outside}
 use Rattle.numbers.specs.declared.Number.{Number}
-use Rattle.numbers.specs.declared.Number.TheVariants.{Good, Refused}
 use Rattle.numbers.specs.Digits.{digits_of}
 use Rattle.numbers.specs.Numerals.{number_at_value}
 use Rattle.format.specs.declared.Column.{Column}
@@ -24,28 +27,28 @@ pub record Found : Type 0 where
   pub next : ℕ
 
 -- The numbers found before.
-abbrev pub after : List ℕ → Result Found → Result Found
-after d (given f) = given (record { values = d ++ f.values; next = f.next })
-after d (refused r) = refused r
+abbrev pub after : List ℕ → Result Found Refusal → Result Found Refusal
+after d x = mapped (λ (f : Found). record { values = d ++ f.values; next = f.next }) x
 
-abbrev pub refused_at : {A : Type 0} → ℕ → Part → ℕ → Result A
-refused_at number part place = refused (record { number = number; part = part; place = place })
+abbrev pub refused_at : {A : Type 0} → Reason → Part → ℕ → Result A Refusal
+refused_at reason part place = Err (record { reason = reason; part = part; place = place })
 
 -- The byte that is due stands at a place.
 abbrev pub stands : List ℕ → ℕ → ℕ → Bool
 stands t c at = ltb at (length t) && eqb (get_or t at 0) c
 
 -- A number of good form is judged at its first byte, before the byte after it.
-abbrev pub judged : Part → List ℕ → (ℕ → Column) → ℕ → ℕ → Number → (ℕ → ℕ → Result Found) → Result Found
-judged part t c end at (Refused r) go = refused r
-judged part t c end at (Good v next) go =
-    cond (outside (c v).low (c v).limit v) (refused_at (c v).number part at)
-    (cond (stands t end next) (go v (next + 1)) (refused_at 11 part next))
+abbrev pub judged : Part → List ℕ → (ℕ → Column) → ℕ → ℕ → Result Number Refusal → (ℕ → ℕ → Result Found Refusal)
+    → Result Found Refusal
+judged part t c end at (Err r) go = Err r
+judged part t c end at (Ok n) go =
+    cond (outside (c n.value).low (c n.value).limit n.value) (refused_at (c n.value).reason part at)
+    (cond (stands t end n.next) (go n.value (n.next + 1)) (refused_at OffLayout part n.next))
 
--- Reading a text from a place on; what is no text of the format is 11, at the byte that departs from it.
-unfoldable pub reading : Part → List ℕ → Format → ℕ → Result Found
-reading part t done at = given (record { values = []; next = at })
-reading part t (byte c f) at = cond (stands t c at) (reading part t f (at + 1)) (refused_at 11 part at)
+-- Reading a text from a place on; what is no text of the format is off the layout, at the byte that departs from it.
+unfoldable pub reading : Part → List ℕ → Format → ℕ → Result Found Refusal
+reading part t done at = Ok (record { values = []; next = at })
+reading part t (byte c f) at = cond (stands t c at) (reading part t f (at + 1)) (refused_at OffLayout part at)
 reading part t (num c end f) at =
     judged part t c end at (number_at_value part t at) (λ v next. after (v ∷ []) (reading part t (f v) next))
 

@@ -1,4 +1,6 @@
 -- Rows of numbers: one space between, a line feed after the last. Assumes nothing.
+use Rattle.slices.specs.declared.Reason.{Reason}
+use Rattle.slices.specs.declared.Reason.TheVariants.{OutOfTurn}
 use Rattle.std.specs.Prelude.{cond, List, ℕ, ◌+◌, eqb, length, get_or}
 use Prim.Native.Char.{code}
 use Rattle.slices.specs.Tables.{rows}
@@ -26,10 +28,10 @@ row r = each r.count (λ i. cell (column_of r i) (separator r.count i))
 
 -- The number that is due in its turn; a number below a limit.
 abbrev pub due : ℕ → Column
-due i = record { low = i; limit = i + 1; number = 12 }
+due i = record { low = i; limit = i + 1; reason = OutOfTurn }
 
-abbrev pub below : ℕ → ℕ → Column
-below limit number = record { low = 0; limit = limit; number = number }
+abbrev pub below : ℕ → Reason → Column
+below limit reason = record { low = 0; limit = limit; reason = reason }
 
 -- The i-th of rows that are numbered in their first column (turn 0) or in their second.
 abbrev pub numbered : Row → ℕ → ℕ → Row

@@ -5,18 +5,15 @@ ghost use Rattle.format.specs.Lines.{labelled, lines_at, LinesRead};
 ghost use Rattle.format.specs.Steps.{cell_says};
 
 use crate::reading::{read_cell, read_literal};
-use crate::{Cell, Column, Lines, Step};
-use numbers::put;
-use slices::{Part, narrow};
+use crate::{Column, Extent};
+use numbers::{Number, put};
+use slices::{Part, Refusal};
 
 // Whether a byte stands at a place.
 pub fn stands(text: &[u8], c: u8, at: usize) -> bool
     ensures { result ≡ stands text.now c at }
 {
-    if text.len() <= at {
-        return false;
-    }
-    text[at] == c
+    at < text.len() && text[at] == c
 }
 
 // A word, a number, the byte that ends it.
@@ -27,15 +24,12 @@ pub fn read_labelled(
     column: Column,
     end: u8,
     part: Part,
-) -> Cell
+) -> Result<Number, Refusal>
     requires { at ≤ length text.now }
     ensures { cell_says result ≡ reading part text.now (labelled word.now (λ v. column) end) at }
 {
-    let step = read_literal(text, at, word, part);
-    match step {
-        Step::Refused(r) => Cell::Refused(r),
-        Step::Next(e) => read_cell(text, e, column, end, part),
-    }
+    let e = read_literal(text, at, word, part)?;
+    read_cell(text, e, column, end, part)
 }
 
 // The lines of a word, as long as its first byte stands. Their numbers are stored where there is room for them, so that
@@ -47,7 +41,7 @@ pub fn read_lines(
     column: Column,
     values: &mut [u8],
     part: Part,
-) -> Lines
+) -> Result<Extent, Refusal>
     requires { (at ≤ length text.now) × (0 < length word.now) × (column.limit ≤ 256) }
     ensures { LinesRead (lines_at part text.now word.now column at) values.old values.new result }
 {
@@ -56,17 +50,10 @@ pub fn read_lines(
     let mut count = 0;
     let mut more = stands(text, first, at);
     while more {
-        let found = read_labelled(text, p, word, column, 10, part);
-        match found {
-            Cell::Refused(x) => {
-                return Lines::Refused(x);
-            }
-            Cell::Read(v, e) => {
-                count = put(values, count, narrow(v));
-                p = e;
-            }
-        }
+        let number = read_labelled(text, p, word, column, 10, part)?;
+        count = put(values, count, number.value as u8);
+        p = number.next;
         more = stands(text, first, p);
     }
-    Lines::Counted(count, p)
+    Ok(Extent { count, next: p })
 }

@@ -4,13 +4,12 @@ ghost use Rattle.numbers.specs.Storing.{Stored};
 ghost use Rattle.format.specs.Rows.{separator, line};
 
 use numbers::{put, put_field};
-use slices::wide16;
 
 pub fn separator(count: usize, i: usize) -> u8
     requires { i < count }
     ensures { result ≡ separator count i }
 {
-    if i + 1 == count { 10 } else { 32 }
+    if i + 1 == count { b'\n' } else { b' ' }
 }
 
 // A fixed text.
@@ -19,10 +18,8 @@ pub fn put_literal(due: &[u8], out: &mut [u8], at: usize) -> usize
     ensures { Stored out.old at due.now out.new result }
 {
     let mut p = at;
-    let mut i = 0;
-    while i < due.len() {
-        p = put(out, p, due[i]);
-        i += 1;
+    for &c in due {
+        p = put(out, p, c);
     }
     p
 }
@@ -34,10 +31,8 @@ pub fn put_row(values: &[u16], out: &mut [u8], at: usize) -> usize
 {
     let count = values.len();
     let mut p = at;
-    let mut i = 0;
-    while i < count {
-        p = put_field(wide16(values[i]), separator(count, i), out, p);
-        i += 1;
+    for (i, &v) in values.iter().enumerate() {
+        p = put_field(usize::from(v), separator(count, i), out, p);
     }
     p
 }

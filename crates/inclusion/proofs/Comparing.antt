@@ -1,10 +1,12 @@
 -- The answer for the family of pairs is the comparison's: the definition's by enumeration, and the third demand's. Assumes
 -- nothing.
+use Rattle.std.specs.Prelude.{Result, Ok, Err}
+use Rattle.slices.specs.declared.Refusal.{Refusal}
 use mathlib.Core.Path.{◌≡◌, sym, subst}
 use mathlib.Core.List.{List, ◌++◌}
 use Prim.Native.Nat.{ℕ}
 use lib.ListN.{length, drop, replicate}
-use Rattle.slices.specs.Refusals.{sound}
+use Rattle.slices.specs.Refusals.{sound, mapped}
 use Rattle.fdfa.specs.Family.{Fdfa, Complete}
 use Rattle.fdfa.specs.Boolean.{product}
 use Rattle.fdfa.specs.Enumeration.{Witness}
@@ -21,7 +23,7 @@ use Rattle.lasso_search.specs.declared.Reported.{Reported}
 use Rattle.lasso_search.specs.Lassos.{Lent}
 use Rattle.lasso_search.specs.Reporting.{difference, Reports}
 use Rattle.inclusion.specs.declared.Outcome.{Outcome}
-use Rattle.inclusion.specs.declared.Outcome.TheVariants.{Absent, Found, Refused}
+use Rattle.inclusion.specs.declared.Outcome.TheVariants.{Absent, Found}
 use Rattle.inclusion.specs.Calls as calls
 use Rattle.inclusion.specs.Calls.{Slices, Settled, cells_fault, compare_cells, compare_start, DecidesInclusion, Compared, Searched}
 use Rattle.inclusion.specs.Placing.{placed_of}
@@ -46,12 +48,12 @@ module _ (F G : Fdfa) (alike : F.letters ≡ G.letters) (CF : Complete F) (CG : 
   counted e = subst (Counts (ReachedPair F G) (pairs F G)) (sym e) (reached-pairs F G alike CF CG)
 
   -- the third demand, whatever the answer is
-  decides : (l : Lent) (r : Outcome) → AnswerFor (comparison F G) l r → DecidesInclusion F G l r
-  decides l (Absent z) s =
+  decides : (l : Lent) (r : Result Outcome Refusal) → AnswerFor (comparison F G) l r → DecidesInclusion F G l r
+  decides l (Ok (Absent z)) s =
       let e = for-absent (comparison F G).witness s in
       (counted s.counted, answers-none (answers e), λ TF TG. contained-all F G alike CF CG TF TG e)
-  decides l (Found z) s = (counted s.counted, answers-first (answers (for-lasso (comparison F G).witness s)))
-  decides l (Refused r) s = tt
+  decides l (Ok (Found z)) s = (counted s.counted, answers-first (answers (for-lasso (comparison F G).witness s)))
+  decides l (Err r) s = tt
 
 module _ {b c : List ℕ} (A : Alike b c) where
   abbrev F : Fdfa
@@ -67,15 +69,15 @@ module _ {b c : List ℕ} (A : Alike b c) where
   CG = (valid-packable c A.second).complete
 
   -- from the search
-  pub reports-searched : {before : Slices} {after : Lent} {found : Reported} {r : Outcome} (D : Reports (difference b c) (calls.lasso before) after found)
-      → cells_fault (compare_cells b c) (length before.work) ≡ sound → r ≡ placed_of F G after found → {front : List ℕ} {m : ℕ} → front ≡ replicate m 0 → m ≡ compare_cells b c
+  pub reports-searched : {before : Slices} {after : Lent} {found : Result Reported Refusal} {r : Result Outcome Refusal} (D : Reports (difference b c) (calls.lasso before) after found)
+      → cells_fault (compare_cells b c) (length before.work) ≡ sound → r ≡ mapped (placed_of F G after) found → {front : List ℕ} {m : ℕ} → front ≡ replicate m 0 → m ≡ compare_cells b c
       → Searched (comparison F G) (compare_cells b c) before (record { opening = after.opening; period = after.period; work = front ++ drop m before.work }) r
   reports-searched {before} {after} {r = r} D fits re {front} {m} fe me =
       subst (λ (C : Comparison). Searched C (compare_cells b c) before (record { opening = after.opening; period = after.period; work = front ++ drop m before.work }) r)
       (comparison-is F G A.letters CF CG D.counted D.answers) (settled-placed F G D fits re fe me)
 
   -- to the call
-  pub searched-compared : {before after : Slices} (r : Outcome) → pair_fault b c ≡ sound → Searched (comparison F G) (compare_cells b c) before after r → Compared b c before after r
+  pub searched-compared : {before after : Slices} (r : Result Outcome Refusal) → pair_fault b c ≡ sound → Searched (comparison F G) (compare_cells b c) before after r → Compared b c before after r
   searched-compared {before} {after} r good S =
       let settled : Settled (compare_start b c (length before.work)) (comparison F G) (compare_cells b c) before after r = settled-good good S in
       record { settles = settled; decides = decides F G A.letters CF CG (calls.lasso after) r (settled-for r settled) }

@@ -1,5 +1,6 @@
 -- Refusals of a comparison at their places, and their order: the unstarred row of 01 for A in B, and D in E of 01, whose first counter-show has an opening
 -- and a loop of two scenes each.
+use Rattle.slices.specs.declared.Reason.TheVariants.{SheetLength, LettersDiffer, TooFewCells, FoundTooLong}
 use mathlib.Core.Path.{◌≡◌, refl}
 use mathlib.Core.List.{List, [], ◌∷◌}
 use Prim.Native.Nat.{ℕ}
@@ -34,12 +35,12 @@ says x y o p w =
     (record { opening = replicate o 0; period = replicate p 0; work = replicate w 0 })
 
 pub refusals :
-    (says a d 0 0 0 ≡ fault_of 7 Second 0) × (says a b 0 1 2 ≡ fault_of 22 Work 3) × (says a b 0 1 3 ≡ sound) × (says d e 0 0 11 ≡ fault_of 22 Work 12)
-    × (says d e 1 1 12 ≡ fault_of 23 Opening 2) × (says d e 2 1 12 ≡ fault_of 23 Loop 2) × (says d e 2 2 12 ≡ sound)
+    (says a d 0 0 0 ≡ fault_of LettersDiffer Second 0) × (says a b 0 1 2 ≡ fault_of TooFewCells Work 3) × (says a b 0 1 3 ≡ sound) × (says d e 0 0 11 ≡ fault_of TooFewCells Work 12)
+    × (says d e 1 1 12 ≡ fault_of FoundTooLong Opening 2) × (says d e 2 1 12 ≡ fault_of FoundTooLong Loop 2) × (says d e 2 2 12 ≡ sound)
 unfolding least return_from returning first_letter first_of_length first_word largest count_below tab rows sum progress_at_value first_outside_of progress_fault header_fault tables_fault sheet_fault
 refusals = (refl, refl, refl, refl, refl, refl, refl)
 
 -- emptiness: the sheet, of part first, before the cells; n + n × K of them
-pub empties : (empty_start (2 ∷ []) 0 ≡ fault_of 1 First 1) × (empty_start b 2 ≡ fault_of 22 Work 3) × (empty_start b 3 ≡ sound)
+pub empties : (empty_start (2 ∷ []) 0 ≡ fault_of SheetLength First 1) × (empty_start b 2 ≡ fault_of TooFewCells Work 3) × (empty_start b 3 ≡ sound)
 unfolding least largest sum progress_at_value first_outside_of progress_fault header_fault tables_fault sheet_fault
 empties = (refl, refl, refl)

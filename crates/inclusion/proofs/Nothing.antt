@@ -1,4 +1,6 @@
 -- The sheet that accepts nothing is valid, and inclusion in it is emptiness. Assumes nothing.
+use Rattle.std.specs.Prelude.{Result, Ok, Err}
+use Rattle.slices.specs.declared.Refusal.{Refusal}
 use mathlib.Core.Path.{◌≡◌, refl, ap, ap₂, sym, subst, subst₂, ◌∙◌}
 use mathlib.Core.Bool.{false}
 use mathlib.Core.List.{List, ◌∷◌}
@@ -31,7 +33,7 @@ use Rattle.pairing.specs.Pairs as pairing
 use Rattle.pairing.specs.Pairs.{Alike}
 use Rattle.lasso_search.specs.Lassos.{Lent}
 use Rattle.inclusion.specs.declared.Outcome.{Outcome}
-use Rattle.inclusion.specs.declared.Outcome.TheVariants.{Absent, Found, Refused}
+use Rattle.inclusion.specs.declared.Outcome.TheVariants.{Absent, Found}
 use Rattle.inclusion.specs.Calls as calls
 use Rattle.inclusion.specs.Calls.{Slices, Settled, compare_cells, empty_cells, empty_start, DecidesEmptiness, Emptied, Searched}
 use Rattle.inclusion.specs.Nothing.{nothing_bytes}
@@ -194,10 +196,10 @@ module _ (F : Fdfa) (CF : Complete F) (some : 1 ≤ F.letters) (few : F.letters 
   counted : {r : ℕ} → r ≡ (emptiness F).reached → Counts (Reached F.letters F.step) F.states r
   counted e = subst (Counts (Reached F.letters F.step) F.states) (sym e) (reached-states F CF)
 
-  decides-empty : (l : Lent) (r : Outcome) → AnswerFor (emptiness F) l r → DecidesEmptiness F l r
-  decides-empty l (Absent z) s = (counted s.counted, empty-none F CF (for-absent (emptiness F).witness s))
-  decides-empty l (Found z) s = (counted s.counted, answers-first (answers (for-lasso (emptiness F).witness s)))
-  decides-empty l (Refused r) s = tt
+  decides-empty : (l : Lent) (r : Result Outcome Refusal) → AnswerFor (emptiness F) l r → DecidesEmptiness F l r
+  decides-empty l (Ok (Absent z)) s = (counted s.counted, empty-none F CF (for-absent (emptiness F).witness s))
+  decides-empty l (Ok (Found z)) s = (counted s.counted, answers-first (answers (for-lasso (emptiness F).witness s)))
+  decides-empty l (Err r) s = tt
 
 module _ (b : List ℕ) (valid : Valid b) where
   abbrev F : Fdfa
@@ -206,14 +208,14 @@ module _ (b : List ℕ) (valid : Valid b) where
   CF : Complete F
   CF = (valid-packable b valid).complete
 
-  pub searched-nothing : {before after : Slices} (r : Outcome) {c : List ℕ} → c ≡ nothing_bytes (letter_count b) → Searched (comparison F (decode c)) (compare_cells b c) before after r → Searched (emptiness F) (empty_cells b) before after r
+  pub searched-nothing : {before after : Slices} (r : Result Outcome Refusal) {c : List ℕ} → c ≡ nothing_bytes (letter_count b) → Searched (comparison F (decode c)) (compare_cells b c) before after r → Searched (emptiness F) (empty_cells b) before after r
   searched-nothing {before} {after} r e S =
       subst₂ (λ (C : Comparison) (k : ℕ). Searched C k before after r)
       (ap (λ (x : List ℕ). comparison F (decode x)) e ∙ empty-is F CF valid.header.some_letters valid.header.few_letters)
       (sym (ap (λ (z : PairSizes). z.pairs + z.pairs * z.widest) (sizes-beside b valid e)))
       S
 
-  pub searched-emptied : {before after : Slices} (r : Outcome) → sheet_fault part.First b ≡ sound → Searched (emptiness F) (empty_cells b) before after r → Emptied b before after r
+  pub searched-emptied : {before after : Slices} (r : Result Outcome Refusal) → sheet_fault part.First b ≡ sound → Searched (emptiness F) (empty_cells b) before after r → Emptied b before after r
   searched-emptied {before} {after} r good S = record {
     settles = settled;
     decides = decides-empty F CF valid.header.some_letters valid.header.few_letters (calls.lasso after) r (settled-for r settled);

@@ -1,5 +1,6 @@
 -- The counterexample of two sheets is a lasso over at most 32 letters. The four numbers of an answer are where the sheets' own verdicts are given
 -- on the lasso that the slices hold; 0 where there is none, and for emptiness, which has no second sheet. Assumes nothing.
+use Rattle.std.specs.Prelude.{Ok}
 use mathlib.Core.Path.{◌≡◌, refl, ap, subst, ◌∙◌}
 use mathlib.Core.List.{List}
 use Prim.Native.Nat.{ℕ}
@@ -38,34 +39,34 @@ abbrev pub judged_at : List ℕ → Slices → Comparison → Standing
 judged_at b l z = standing_of (given-at (verdict (decode b) (take z.prefix l.opening) (take z.period l.period)))
 
 module _ {b c : List ℕ} {before after : Slices} {z : Comparison} where
-  pub missing-standing : Compared b c before after (Found z) → (z.first ≡ judged_at b after z) × (z.second ≡ judged_at c after z)
+  pub missing-standing : Compared b c before after (Ok (Found z)) → (z.first ≡ judged_at b after z) × (z.second ≡ judged_at c after z)
   missing-standing K =
       let C = comparison (decode b) (decode c) in
       let g = settled-given C K.settles refl in
       let A = sound-alike b c (then-left (pair_fault b c) _ (then-left (compare_start b c (length before.work)) _ g.0)) in
       let h = comparison-standing (decode b) (decode c) A.letters (valid-packable b A.first).complete (valid-packable c A.second).complete
-      (for-lasso C.witness (settled-for (Found z) K.settles)) in
+      (for-lasso C.witness (settled-for (Ok (Found z)) K.settles)) in
       (ap (λ (n : Comparison). n.first) g.2 ∙ ap standing_of h.0, ap (λ (n : Comparison). n.second) g.2 ∙ ap standing_of h.1)
 
-  pub contained-nowhere : Compared b c before after (Absent z) → (z.first ≡ standing_of nowhere) × (z.second ≡ standing_of nowhere)
+  pub contained-nowhere : Compared b c before after (Ok (Absent z)) → (z.first ≡ standing_of nowhere) × (z.second ≡ standing_of nowhere)
   contained-nowhere K =
       let C = comparison (decode b) (decode c) in
       let n = (settled-given C K.settles refl).2 in
-      let e = for-absent C.witness (settled-for (Absent z) K.settles) in
+      let e = for-absent C.witness (settled-for (Ok (Absent z)) K.settles) in
       (ap (λ (n : Comparison). n.first) n ∙ ap (λ (w : Witness). standing_of (standing (decode b) w)) e, ap (λ (n : Comparison). n.second) n ∙ ap (λ (w : Witness). standing_of (standing (decode c) w)) e)
 
 module _ {b : List ℕ} {before after : Slices} {z : Comparison} where
-  pub found-standing : Emptied b before after (Found z) → (z.first ≡ judged_at b after z) × (z.second ≡ standing_of nowhere)
+  pub found-standing : Emptied b before after (Ok (Found z)) → (z.first ≡ judged_at b after z) × (z.second ≡ standing_of nowhere)
   found-standing K =
       let C = emptiness (decode b) in
       let g = settled-given C K.settles refl in
       let valid = sound-valid part.First b (then-left (sheet_fault part.First b) _ (then-left (empty_start b (length before.work)) _ g.0)) in
-      let h = emptiness-standing (decode b) (valid-packable b valid).complete (for-lasso C.witness (settled-for (Found z) K.settles)) in
+      let h = emptiness-standing (decode b) (valid-packable b valid).complete (for-lasso C.witness (settled-for (Ok (Found z)) K.settles)) in
       (ap (λ (n : Comparison). n.first) g.2 ∙ ap standing_of h, ap (λ (n : Comparison). n.second) g.2)
 
-  pub empty-nowhere : Emptied b before after (Absent z) → (z.first ≡ standing_of nowhere) × (z.second ≡ standing_of nowhere)
+  pub empty-nowhere : Emptied b before after (Ok (Absent z)) → (z.first ≡ standing_of nowhere) × (z.second ≡ standing_of nowhere)
   empty-nowhere K =
       let C = emptiness (decode b) in
       let n = (settled-given C K.settles refl).2 in
-      let e = for-absent C.witness (settled-for (Absent z) K.settles) in
+      let e = for-absent C.witness (settled-for (Ok (Absent z)) K.settles) in
       (ap (λ (n : Comparison). n.first) n ∙ ap (λ (w : Witness). standing_of (standing (decode b) w)) e, ap (λ (n : Comparison). n.second) n)

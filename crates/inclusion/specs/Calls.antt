@@ -1,5 +1,7 @@
 -- What the comparison and the test of emptiness say and write, for any bytes. Assumes nothing.
-use Rattle.std.specs.Prelude.{◌≡◌, true, false, List, ℕ, ◌+◌, ◌*◌, ltb, length, take, replicate}
+use Rattle.slices.specs.declared.Reason.TheVariants.{TooFewCells}
+use Rattle.slices.specs.declared.Refusal.{Refusal}
+use Rattle.std.specs.Prelude.{◌≡◌, true, false, List, ℕ, ◌+◌, ◌*◌, ltb, length, take, replicate, Result, Ok, Err}
 use Rattle.slices.specs.declared.Part.TheVariants.{First, Work}
 use Rattle.slices.specs.Refusals.{Fault, ◌then◌, when, unless}
 use Rattle.slices.specs.Filling.{filled}
@@ -13,8 +15,8 @@ use Rattle.packed.specs.Layout.{decode}
 use Rattle.packed.specs.Faults.{sheet_fault, pair_fault}
 use Rattle.lasso_search.specs.Lassos.{Lent, room_fault, prefix_of, period_of}
 use Rattle.inclusion.specs.declared.Outcome.{Outcome}
-use Rattle.inclusion.specs.declared.Outcome.TheVariants.{Absent, Found, Refused}
-use Rattle.inclusion.specs.Outcomes.{answer_of, outcome_says}
+use Rattle.inclusion.specs.declared.Outcome.TheVariants.{Absent, Found}
+use Rattle.inclusion.specs.Outcomes.{answer_of}
 
 -- The slices that a call is lent.
 pub record Slices : Type 0 where
@@ -34,17 +36,17 @@ call_fault start C l = start then room_fault C.witness (lasso l)
 -- `cells` what the search needs: the lasso is written where both parts of it fit, and the cells are 0 from the search
 -- on.
 pub record Settled (start : Fault) (C : model.Comparison) (cells : ℕ) (before after : Slices)
-    (r : Outcome) : Type 0 where
-  pub says : outcome_says r ≡ unless (call_fault start C before) (answer_of C)
+    (r : Result Outcome Refusal) : Type 0 where
+  pub says : r ≡ unless (call_fault start C before) (answer_of C)
   pub opening : after.opening ≡ filled (call_fault start C before) (prefix_of C.witness) before.opening
   pub period : after.period ≡ filled (call_fault start C before) (period_of C.witness) before.period
   pub work : after.work ≡ filled start (replicate cells 0) before.work
 
 -- The cells that the search needs.
 abbrev pub cells_fault : ℕ → ℕ → Fault
-cells_fault cells work = when (ltb work cells) 22 Work cells
+cells_fault cells work = when (ltb work cells) TooFewCells Work cells
 
--- N + N × K cells of work; before the search: first sheet, second sheet, 7, 22.
+-- N + N × K cells of work; before the search: first sheet, second sheet, letters that differ, too few cells.
 abbrev pub compare_cells : List ℕ → List ℕ → ℕ
 compare_cells b c = pairs (decode b) (decode c) + combinations (decode b) (decode c)
 
@@ -54,24 +56,25 @@ compare_start b c work = pair_fault b c then cells_fault (compare_cells b c) wor
 -- The third demand. R counts the pairs that prefixes of whatever length reach. Absent: no lasso, of whatever length,
 -- closes in both, is accepted by the first and rejected by the second, and where both are turn_proof no lasso at all is
 -- accepted by the first and rejected by the second. Found: the first of all those that close in both.
-abbrev pub DecidesInclusion : Fdfa → Fdfa → Lent → Outcome → Type 0
-DecidesInclusion F G after (Absent z) =
+abbrev pub DecidesInclusion : Fdfa → Fdfa → Lent → Result Outcome Refusal → Type 0
+DecidesInclusion F G after (Ok (Absent z)) =
     Counts (ReachedPair F G) (pairs F G) z.reached
     × ((u v : List ℕ) → Counterexample F G u v → ⊥)
     × (TurnProof F → TurnProof G → (u v : List ℕ) → Lasso F.letters u v → accepts F u v ≡ true →
     accepts G u v ≡ false → ⊥)
-DecidesInclusion F G after (Found z) =
+DecidesInclusion F G after (Ok (Found z)) =
     Counts (ReachedPair F G) (pairs F G) z.reached
     × model.First (Counterexample F G) (take z.prefix after.opening) (take z.period after.period)
-DecidesInclusion F G after (Refused r) = Unit {0}
+DecidesInclusion F G after (Err r) = Unit {0}
 
 -- The comparison of two sheets.
-pub record Compared (b c : List ℕ) (before after : Slices) (r : Outcome) : Type 0 where
+pub record Compared (b c : List ℕ) (before after : Slices) (r : Result Outcome Refusal) : Type 0 where
   pub settles : Settled (compare_start b c (length before.work)) (comparison (decode b) (decode c))
       (compare_cells b c) before after r
   pub decides : DecidesInclusion (decode b) (decode c) (lasso after) r
 
--- Emptiness: n + n × K cells, K the size of the largest progress automaton; before the search: the sheet, 22.
+-- Emptiness: n + n × K cells, K the size of the largest progress automaton; before the search: the sheet, too
+-- few cells.
 abbrev pub empty_cells : List ℕ → ℕ
 empty_cells b = (decode b).states + (decode b).states * widest (decode b)
 
@@ -80,20 +83,20 @@ empty_start b work = sheet_fault First b then cells_fault (empty_cells b) work
 
 -- R counts the leading states that prefixes of whatever length reach. Absent: no lasso at all is accepted. Found: the
 -- first that closes and is accepted.
-abbrev pub DecidesEmptiness : Fdfa → Lent → Outcome → Type 0
-DecidesEmptiness F after (Absent z) =
+abbrev pub DecidesEmptiness : Fdfa → Lent → Result Outcome Refusal → Type 0
+DecidesEmptiness F after (Ok (Absent z)) =
     Counts (Reached F.letters F.step) F.states z.reached
     × ((u v : List ℕ) → Lasso F.letters u v → accepts F u v ≡ true → ⊥)
-DecidesEmptiness F after (Found z) =
+DecidesEmptiness F after (Ok (Found z)) =
     Counts (Reached F.letters F.step) F.states z.reached
     × model.First (Accepted F) (take z.prefix after.opening) (take z.period after.period)
-DecidesEmptiness F after (Refused r) = Unit {0}
+DecidesEmptiness F after (Err r) = Unit {0}
 
 -- The test of emptiness.
-pub record Emptied (b : List ℕ) (before after : Slices) (r : Outcome) : Type 0 where
+pub record Emptied (b : List ℕ) (before after : Slices) (r : Result Outcome Refusal) : Type 0 where
   pub settles : Settled (empty_start b (length before.work)) (emptiness (decode b)) (empty_cells b) before after r
   pub decides : DecidesEmptiness (decode b) (lasso after) r
 
--- Of inner functions, where the sheets are good: as `Settled`, with 22 alone before the search.
-abbrev pub Searched : model.Comparison → ℕ → Slices → Slices → Outcome → Type 0
+-- Of inner functions, where the sheets are good: as `Settled`, with too few cells alone before the search.
+abbrev pub Searched : model.Comparison → ℕ → Slices → Slices → Result Outcome Refusal → Type 0
 Searched C cells before after r = Settled (cells_fault cells (length before.work)) C cells before after r

@@ -10,7 +10,7 @@ use Rattle.lasso_search.specs.declared.Reported.TheVariants as search
 use Rattle.lasso_search.specs.Lassos.{Lent}
 use Rattle.inclusion.specs.declared.Comparison.{Comparison}
 use Rattle.inclusion.specs.declared.Outcome.{Outcome}
-use Rattle.inclusion.specs.declared.Outcome.TheVariants.{Absent, Found, Refused}
+use Rattle.inclusion.specs.declared.Outcome.TheVariants.{Absent, Found}
 
 abbrev pub joined : Finding → Standings → Comparison
 joined z s = record { reached = z.reached; prefix = z.prefix; period = z.period; first = s.first; second = s.second }
@@ -22,10 +22,8 @@ LiesIn s l (search.Found z) =
     (z.prefix ≤ length l.opening)
     × (z.period ≤ length l.period)
     × Lasso s (take z.prefix l.opening) (take z.period l.period)
-LiesIn s l (search.Refused r) = Unit {0}
 
 abbrev pub placed_of : Fdfa → Fdfa → Lent → Reported → Outcome
 placed_of F G l (search.Absent z) = Absent (joined z (standings_of F G absent))
 placed_of F G l (search.Found z) = Found (joined z (standings_of F G
     (lasso (take z.prefix l.opening) (take z.period l.period))))
-placed_of F G l (search.Refused r) = Refused r

@@ -12,15 +12,15 @@ ghost use Rattle.fdfa.specs.Inclusion.{comparison, emptiness};
 ghost use Rattle.inclusion.specs.Calls.{Compared, Emptied, Searched, compare_cells, empty_cells};
 
 use lasso_search::first_lasso;
-use packed::{Sizes, Validity};
-use pairing::{PairSizes, Sized};
+use packed::Sizes;
+use pairing::PairSizes;
 use placing::placed;
-use slices::{Part, Refusal, narrow, refuse};
+use slices::{Part, Reason, Refusal, refuse};
 pub use standing::Standing;
 
 // R, the lengths of the lasso that was written, and where each sheet stands on it; 0 where there is no lasso or no
 // second sheet.
-#[derive(Clone, Copy)]
+#[derive(Clone, Copy, Debug, PartialEq, Eq)]
 pub struct Comparison {
     pub reached: usize,
     pub prefix: usize,
@@ -29,12 +29,11 @@ pub struct Comparison {
     pub second: Standing,
 }
 
-// What a call says: that there is no such lasso, of whatever length; that it wrote the first one; or the refusal.
-#[derive(Clone, Copy)]
+// What a call says: that there is no such lasso, of whatever length, or that it wrote the first one.
+#[derive(Clone, Copy, Debug, PartialEq, Eq)]
 pub enum Outcome {
     Absent(Comparison),
     Found(Comparison),
-    Refused(Refusal),
 }
 
 // Whether the first sheet is contained in the second: whether every lasso that is normalized in both and accepted by
@@ -46,20 +45,17 @@ pub fn compare(
     opening: &mut [u8],
     period: &mut [u8],
     work: &mut [u64],
-) -> Outcome
+) -> Result<Outcome, Refusal>
     ensures { Compared first.now second.now
         (record { opening = opening.old; period = period.old; work = work.old })
         (record { opening = opening.new; period = period.new; work = work.new })
         result }
 {
-    let pair = pairing::check(first, second);
-    match pair {
-        Sized::Refused(r) => Outcome::Refused(r),
-        Sized::Paired(z) => search_cells(first, second, z, opening, period, work),
-    }
+    let sizes = pairing::check(first, second)?;
+    search_cells(first, second, sizes, opening, period, work)
 }
 
-// The search in the N + N × K cells that it needs, or 22.
+// The search in the N + N × K cells that it needs, or the refusal of too few.
 fn search_cells(
     first: &[u8],
     second: &[u8],
@@ -67,7 +63,7 @@ fn search_cells(
     opening: &mut [u8],
     period: &mut [u8],
     work: &mut [u64],
-) -> Outcome
+) -> Result<Outcome, Refusal>
     requires { Alike first.now second.now × (sizes ≡ pairs.sizes_of first.now second.now) }
     ensures { Searched (comparison (decode first.now) (decode second.now)) (compare_cells first.now second.now)
         (record { opening = opening.old; period = period.old; work = work.old })
@@ -77,10 +73,10 @@ fn search_cells(
     let cells = sizes.pairs + sizes.pairs * sizes.widest;
     let lent = work.len();
     if lent < cells {
-        return Outcome::Refused(refuse(22, Part::Work, cells));
+        return Err(refuse(Reason::TooFewCells, Part::Work, cells));
     }
-    let found = first_lasso(first, second, sizes, opening, period, &mut work[..cells]);
-    placed(first, second, found, opening, period)
+    let found = first_lasso(first, second, sizes, opening, period, &mut work[..cells])?;
+    Ok(placed(first, second, found, opening, period))
 }
 
 // The first accepted, normalized lasso: emptiness as inclusion in the family with one state everywhere that accepts
@@ -91,7 +87,7 @@ fn accepted_lasso(
     opening: &mut [u8],
     period: &mut [u8],
     work: &mut [u64],
-) -> Outcome
+) -> Result<Outcome, Refusal>
     requires { Valid sheet.now × (sizes ≡ sizes_of sheet.now) }
     ensures { Searched (emptiness (decode sheet.now)) (empty_cells sheet.now)
         (record { opening = opening.old; period = period.old; work = work.old })
@@ -100,7 +96,7 @@ fn accepted_lasso(
 {
     let letters = sizes.letters;
     let mut nothing = [0u8; 68];
-    nothing[0] = narrow(letters);
+    nothing[0] = letters as u8;
     nothing[1] = 1;
     nothing[2] = 1;
     let end = 4 + 2 * letters;
@@ -115,15 +111,17 @@ fn accepted_lasso(
 }
 
 // Whether the sheet accepts no lasso at all. Otherwise the first that is normalized and accepted is written.
-pub fn emptiness(sheet: &[u8], opening: &mut [u8], period: &mut [u8], work: &mut [u64]) -> Outcome
+pub fn emptiness(
+    sheet: &[u8],
+    opening: &mut [u8],
+    period: &mut [u8],
+    work: &mut [u64],
+) -> Result<Outcome, Refusal>
     ensures { Emptied sheet.now
         (record { opening = opening.old; period = period.old; work = work.old })
         (record { opening = opening.new; period = period.new; work = work.new })
         result }
 {
-    let check = packed::check(sheet, Part::First);
-    match check {
-        Validity::Refused(r) => Outcome::Refused(r),
-        Validity::Valid(z) => accepted_lasso(sheet, z, opening, period, work),
-    }
+    let sizes = packed::check(sheet, Part::First)?;
+    accepted_lasso(sheet, sizes, opening, period, work)
 }

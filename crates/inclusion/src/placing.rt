@@ -12,14 +12,12 @@ use standing::{Standing, Standings, stand};
 fn join(z: Finding, s: Standings) -> Comparison
     ensures { result ≡ joined z s }
 {
-    let first = s.first;
-    let second = s.second;
     Comparison {
         reached: z.reached,
         prefix: z.prefix,
         period: z.period,
-        first,
-        second,
+        first: s.first,
+        second: s.second,
     }
 }
 
@@ -37,7 +35,6 @@ pub fn placed(
         (record { opening = opening.now; period = period.now }) found }
 {
     match found {
-        Reported::Refused(r) => Outcome::Refused(r),
         Reported::Absent(z) => {
             let nowhere = Standing { waits: 0, ends: 0 };
             let nowheres = Standings {
@@ -47,10 +44,8 @@ pub fn placed(
             Outcome::Absent(join(z, nowheres))
         }
         Reported::Found(z) => {
-            let n = z.prefix;
-            let m = z.period;
-            let u = &opening[..n];
-            let v = &period[..m];
+            let u = &opening[..z.prefix];
+            let v = &period[..z.period];
             Outcome::Found(join(z, stand(first, second, u, v)))
         }
     }

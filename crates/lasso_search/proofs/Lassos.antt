@@ -14,6 +14,7 @@ use Rattle.fdfa.proofs.Words.{over-left, over-right}
 use Rattle.fdfa.proofs.Emptiness.{Walks, walks, walked}
 use Rattle.search.specs.Words.{Word, ε, ◌·◌, ◌⊏◌, ◌⊑◌, same, less, run, Over, size, letters}
 use Rattle.search.proofs.Letters.{letters-over, walk-letters, word, letters-word, length-letters, ordered}
+use Rattle.lasso_search.specs.declared.LassoCodes.{LassoCodes}
 use Rattle.lasso_search.specs.Codes.{AcceptedWords, FirstWords, FirstAt}
 
 over-letters : {s : ℕ} (w : Word) → lists.Over s (letters w) → Over s w
@@ -61,7 +62,7 @@ module _ (P : Fdfa) (C : Complete P) where
       n (word u) (word v) (accepted-lasso (word u) (word v)
       (subst (λ (x : List ℕ). Accepted P x (letters (word v))) (sym (letters-word u)) (subst (Accepted P u) (sym (letters-word v)) a)))
 
-  pub first-accepted : {n : ℕ} {work : List ℕ} {i h : ℕ} → FirstAt (AcceptedWords P) n work i h → FirstAt (λ u v. Accepted P (letters u) (letters v)) n work i h
+  pub first-accepted : {n : ℕ} {work : List ℕ} {z : LassoCodes} → FirstAt (AcceptedWords P) n work z → FirstAt (λ u v. Accepted P (letters u) (letters v)) n work z
   first-accepted A = record {
     u = A.u;
     v = A.v;

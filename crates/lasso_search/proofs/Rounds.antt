@@ -84,7 +84,7 @@ module _ (P : Fdfa) {leads rows : List ℕ} {k q : ℕ} (L : Tabulated leads P.s
   loop-of E = let f = ending L R some qn rk (P.accepting q) E in record { over = E.over; loops = E.some; back = f.0; accepts = f.1 }
 
   pub located : {work : List ℕ} {reached i code : ℕ} → Round P (take (P.states - 1) work) reached i → i < reached → q ≡ state_at 0 (take (P.states - 1) work) i → P.states - 1 ≤ length work
-      → Ends J (drop (P.states - 1) work) code → FirstAt (AcceptedWords P) P.states work i code
+      → Ends J (drop (P.states - 1) work) code → FirstAt (AcceptedWords P) P.states work (record { prefix = i; period = code })
   located {work} {reached} {i} {code} O here e fits E = record {
     u = u;
     v = E.word;

@@ -1,7 +1,8 @@
 -- What the search for a lasso keeps: accepted loops at a leading state, tables of a family's steps, the leading states
 -- that were found, and the first lasso by its codes. Only inner contracts and loops use these. Assumes nothing.
+use Rattle.slices.specs.declared.Refusal.{Refusal}
 use Rattle.std.specs.Prelude.{◌≡◌, Bool, true, cond, not, ◌&&◌, List, ◌⊎◌, ℕ, ◌+◌, ◌*◌, ◌-◌, ◌/◌, ◌%◌, ◌≤◌, ◌<◌, eqb}
-use Rattle.std.specs.Prelude.{length, get_or, take, drop}
+use Rattle.std.specs.Prelude.{length, get_or, take, drop, Option, None, Some, Result}
 use Rattle.fdfa.specs.Family.{Fdfa, Closed}
 use Rattle.fdfa.specs.Inclusion.{Counts, Reached, Accepted}
 use Rattle.pairing.specs.declared.Beside.{Beside}
@@ -13,11 +14,11 @@ use Rattle.search.specs.Search.{row_step}
 use Rattle.fdfa.specs.Enumeration.{lasso}
 use Rattle.slices.specs.Refusals.{unless}
 use Rattle.lasso_search.specs.Lassos.{Lent, room_fault, lasso_written}
-use Rattle.lasso_search.specs.Reporting.{difference, report_of, reported_says}
+use Rattle.lasso_search.specs.Reporting.{difference, report_of}
 use Rattle.lasso_search.specs.declared.Reported.{Reported}
 use Rattle.lasso_search.specs.declared.Candidate.{Candidate}
 use Rattle.lasso_search.specs.declared.Codes.{Codes}
-use Rattle.lasso_search.specs.declared.Codes.TheVariants.{Absent, Found}
+use Rattle.lasso_search.specs.declared.LassoCodes.{LassoCodes}
 
 -- A period that is accepted at the leading state q.
 pub record AcceptedPeriod (P : Fdfa) (q : ℕ) (v : Word) : Type 0 where
@@ -36,13 +37,13 @@ pub record FirstWords (P : Word → Word → Type 0) (u v : Word) : Type 0 where
   pub least : (u' v' : Word) → P u' v' → (u ⊏ u') ⊎ ((u ≡ u') × (v ⊑ v'))
 
 -- The first lasso by its codes: the prefix in the first n − 1 cells, the period in those behind.
-pub record FirstAt (P : Word → Word → Type 0) (n : ℕ) (work : List ℕ) (prefix period : ℕ) : Type 0 where
+pub record FirstAt (P : Word → Word → Type 0) (n : ℕ) (work : List ℕ) (z : LassoCodes) : Type 0 where
   pub u : Word
   pub v : Word
-  pub u_in : prefix < n
-  pub v_in : n - 1 + period ≤ length work
-  pub u_path : Path (take (n - 1) work) prefix u
-  pub v_path : Path (drop (n - 1) work) period v
+  pub u_in : z.prefix < n
+  pub v_in : n - 1 + z.period ≤ length work
+  pub u_path : Path (take (n - 1) work) z.prefix u
+  pub v_path : Path (drop (n - 1) work) z.period v
   pub first : FirstWords P u v
 
 -- A table has the steps of an automaton of m states, all within it.
@@ -108,15 +109,26 @@ pub record Round (P : Fdfa) (front : List ℕ) (reached i : ℕ) : Type 0 where
   pub upto : i ≤ reached
   pub none : (j : ℕ) → j < i → (v : Word) → AcceptedPeriod P (state_at 0 front j) v → ⊥
 
--- The next code from `from` on whose state the search is prepared for, or none of those reached. The first n − 1 cells
--- are as before.
-pub record Next (P : Fdfa) (n reached from : ℕ) (rows status before work : List ℕ) (c : Candidate) : Type 0 where
-  pub kept : take (n - 1) work ≡ take (n - 1) before
+-- A code from `from` on, with its state, that the search is prepared for; the states of the codes before it have no
+-- accepted period.
+pub record Chosen (P : Fdfa) (n reached from : ℕ) (rows status front : List ℕ) (c : Candidate) : Type 0 where
   pub later : from ≤ c.code
-  pub round : Round P (take (n - 1) work) reached c.code
-  pub state : c.code < reached → c.state ≡ state_at 0 (take (n - 1) work) c.code
-  pub some : c.code < reached → 0 < c.count
-  pub prepared : c.code < reached → Prepared P n c.state rows status c.count
+  pub here : c.code < reached
+  pub round : Round P front reached c.code
+  pub state : c.state ≡ state_at 0 front c.code
+  pub some : 0 < c.count
+  pub prepared : Prepared P n c.state rows status c.count
+
+-- The next such code, or none: then no state that was reached has an accepted period.
+abbrev pub Choice : Fdfa → ℕ → ℕ → ℕ → List ℕ → List ℕ → List ℕ → Option Candidate → Type 0
+Choice P n reached from rows status front None = Round P front reached reached
+Choice P n reached from rows status front (Some c) = Chosen P n reached from rows status front c
+
+-- What the search goes on with. The first n − 1 cells are as before.
+pub record Next (P : Fdfa) (n reached from : ℕ) (rows status before work : List ℕ) (next : Option Candidate)
+    : Type 0 where
+  pub kept : take (n - 1) work ≡ take (n - 1) before
+  pub choice : Choice P n reached from rows status (take (n - 1) work) next
 
 -- Tables, status and cells of these lengths suffice for the whole search.
 pub record CanFind (b c : List ℕ) (t : Beside) (n leads rows status work : ℕ) : Type 0 where
@@ -130,26 +142,30 @@ pub record Started (P : Fdfa) (n s : ℕ) (leads work : List ℕ) (reached : ℕ
   pub table : Tabulated leads n s P.step
   pub round : Round P (take (n - 1) work) reached 0
 
--- R, and none or the first accepted and normalized lasso, by its codes.
+-- None or the first accepted and normalized lasso, by its codes.
+abbrev pub FirstLasso : Fdfa → List ℕ → Option LassoCodes → Type 0
+FirstLasso P work None = (u v : List ℕ) → Accepted P u v → ⊥
+FirstLasso P work (Some z) = FirstAt (λ u v. Accepted P (letters u) (letters v)) P.states work z
+
+-- R and the lasso.
 abbrev pub Located : Fdfa → List ℕ → Codes → Type 0
-Located P work (Absent r) = Counts (Reached P.letters P.step) P.states r × ((u v : List ℕ) → Accepted P u v → ⊥)
-Located P work (Found r i h) =
-    Counts (Reached P.letters P.step) P.states r × FirstAt (λ u v. Accepted P (letters u) (letters v)) P.states work i h
+Located P work c = Counts (Reached P.letters P.step) P.states c.reached × FirstLasso P work c.lasso
 
 -- The two codes can be read back as words, from the cells before `front` and from those behind.
-pub record CanTell (front : ℕ) (work : List ℕ) (i h : ℕ) : Type 0 where
+pub record CanTell (front : ℕ) (work : List ℕ) (z : LassoCodes) : Type 0 where
   pub fits : front ≤ length work
   pub few : front ≤ 1024
-  pub prefix : Readable (take front work) i
-  pub period : Readable (take (length work - front) (drop front work)) h
+  pub prefix : Readable (take front work) z.prefix
+  pub period : Readable (take (length work - front) (drop front work)) z.period
 
 -- What is said and written of the words u and v that the codes have.
-pub record Tells (front : ℕ) (work : List ℕ) (i h reached : ℕ) (before after : Lent) (r : Reported) : Type 0 where
+pub record Tells (front : ℕ) (work : List ℕ) (z : LassoCodes) (reached : ℕ) (before after : Lent)
+    (r : Result Reported Refusal) : Type 0 where
   pub u : Word
   pub v : Word
-  pub u_path : Path (take front work) i u
-  pub v_path : Path (take (length work - front) (drop front work)) h v
-  pub says : reported_says r ≡ unless (room_fault (lasso (letters u) (letters v)) before)
+  pub u_path : Path (take front work) z.prefix u
+  pub v_path : Path (take (length work - front) (drop front work)) z.period v
+  pub says : r ≡ unless (room_fault (lasso (letters u) (letters v)) before)
       (report_of reached (lasso (letters u) (letters v)))
   pub written : after ≡ lasso_written (room_fault (lasso (letters u) (letters v)) before)
       (lasso (letters u) (letters v)) before

@@ -1,4 +1,5 @@
 -- A lasso that was found, written to two slices: its parts, whether they fit, and the slices then. Assumes nothing.
+use Rattle.slices.specs.declared.Reason.TheVariants.{FoundTooLong}
 use Rattle.std.specs.Prelude.{List, [], ℕ, ltb, length}
 use Rattle.slices.specs.declared.Part.TheVariants.{Opening, Loop}
 use Rattle.slices.specs.Refusals.{Fault, sound, ◌then◌, when}
@@ -10,12 +11,12 @@ pub record Lent : Type 0 where
   pub opening : List ℕ
   pub period : List ℕ
 
--- 23: the opening or, if that fits, the loop does not fit, with the length needed.
+-- Too long a lasso: the opening or, if that fits, the loop does not fit, with the length needed.
 abbrev pub room_fault : Witness → Lent → Fault
 room_fault absent l = sound
 room_fault (lasso u v) l =
-    when (ltb (length l.opening) (length u)) 23 Opening (length u)
-    then when (ltb (length l.period) (length v)) 23 Loop (length v)
+    when (ltb (length l.opening) (length u)) FoundTooLong Opening (length u)
+    then when (ltb (length l.period) (length v)) FoundTooLong Loop (length v)
 
 abbrev pub prefix_of : Witness → List ℕ
 prefix_of absent = []

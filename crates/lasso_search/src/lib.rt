@@ -16,30 +16,36 @@ use slices::Refusal;
 use telling::tell;
 
 // R, and the lengths of the lasso that was written, 0 where there is none.
-#[derive(Clone, Copy)]
+#[derive(Clone, Copy, Debug, PartialEq, Eq)]
 pub struct Finding {
     pub reached: usize,
     pub prefix: usize,
     pub period: usize,
 }
 
-// What the search says: that there is no such lasso, of whatever length; that it wrote the first one; or the refusal.
-#[derive(Clone, Copy)]
+// What the search says: that there is no such lasso, of whatever length, or that it wrote the first one.
+#[derive(Clone, Copy, Debug, PartialEq, Eq)]
 pub enum Reported {
     Absent(Finding),
     Found(Finding),
-    Refused(Refusal),
 }
 
-// What the search found: R, and the codes of the first lasso's prefix and period.
-#[derive(Clone, Copy)]
-pub enum Codes {
-    Absent(usize),
-    Found(usize, usize, usize),
+// The codes of a lasso's prefix and period.
+#[derive(Clone, Copy, Debug, PartialEq, Eq)]
+pub struct LassoCodes {
+    pub prefix: usize,
+    pub period: usize,
+}
+
+// What the search found: R, and the codes of the first lasso.
+#[derive(Clone, Copy, Debug, PartialEq, Eq)]
+pub struct Codes {
+    pub reached: usize,
+    pub lasso: Option<LassoCodes>,
 }
 
 // A leading state to search from: its code, its number, and how many pairs of progress states it has.
-#[derive(Clone, Copy)]
+#[derive(Clone, Copy, Debug, PartialEq, Eq)]
 pub struct Candidate {
     pub code: usize,
     pub state: usize,
@@ -54,7 +60,7 @@ pub fn first_lasso(
     opening: &mut [u8],
     period: &mut [u8],
     work: &mut [u64],
-) -> Reported
+) -> Result<Reported, Refusal>
     requires { Alike first.now second.now × (sizes ≡ sizes_of first.now second.now) ×
         (length work.old ≡ sizes.pairs + sizes.pairs * sizes.widest) }
     ensures reports { Reports (difference first.now second.now)
@@ -63,21 +69,16 @@ pub fn first_lasso(
         result }
     ensures clears { work.new ≡ replicate (length work.old) 0 }
 {
-    let n = sizes.pairs;
     let found = locate(first, second, sizes, work);
-    match found {
-        Codes::Absent(reached) => {
-            search::clear(work);
-            Reported::Absent(Finding {
-                reached,
-                prefix: 0,
-                period: 0,
-            })
-        }
-        Codes::Found(reached, i, h) => {
-            let reported = tell(reached, i, h, n - 1, work, opening, period);
-            search::clear(work);
-            reported
-        }
-    }
+    let reached = found.reached;
+    let reported = match found.lasso {
+        None => Ok(Reported::Absent(Finding {
+            reached,
+            prefix: 0,
+            period: 0,
+        })),
+        Some(lasso) => tell(reached, lasso, sizes.pairs - 1, work, opening, period),
+    };
+    search::clear(work);
+    reported
 }

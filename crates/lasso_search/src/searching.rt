@@ -7,7 +7,7 @@ ghost use Rattle.lasso_search.specs.Codes.{Tabulated, Fresh, Leads, Room, Round,
 ghost use Rattle.lasso_search.specs.Codes.{Located};
 
 use crate::setting::set_status;
-use crate::{Candidate, Codes};
+use crate::{Candidate, Codes, LassoCodes};
 use pairing::{Beside, PairSizes};
 use search::Expansion;
 
@@ -20,8 +20,7 @@ fn reach(leads: &[u16], n: usize, letters: usize, status: &mut [u8], cells: &mut
     search::refresh(status);
     status[0] = 0;
     let still = [0u16; 32];
-    let found = search::explore(leads, &still, n, letters, 0, status, cells);
-    match found {
+    match search::explore(leads, &still, n, letters, 0, status, cells) {
         Expansion::On(total) => total,
         Expansion::Ending(_) => 1,
     }
@@ -36,8 +35,7 @@ fn can_end(rows: &[u16], letters: usize, count: usize, status: &mut [u8], cells:
         → (v : Word) → Over letters v → (v ≡ ε → ⊥) → e (run f 0 v) ≡ true → ⊥ }
 {
     let still = [0u16; 32];
-    let found = search::explore(&still, rows, 1, letters, 0, status, cells);
-    match found {
+    match search::explore(&still, rows, 1, letters, 0, status, cells) {
         Expansion::On(_) => false,
         Expansion::Ending(_) => true,
     }
@@ -74,8 +72,7 @@ fn prepare(
     count
 }
 
-// The next leading state, by codes from `from` on, that some period may end at, its table made and the status set. Its
-// code is `reached` where there is none.
+// The next leading state, by codes from `from` on, that some period may end at, its table made and the status set.
 fn next_candidate(
     first: &[u8],
     second: &[u8],
@@ -86,7 +83,7 @@ fn next_candidate(
     rows: &mut [u16],
     status: &mut [u8],
     work: &mut [u64],
-) -> Candidate
+) -> Option<Candidate>
     requires alike { Alike first.now second.now × (t ≡ leads_of first.now second.now) }
     requires room { Room (difference first.now second.now) n (length rows.old) (length status.old)
         (length work.old - (n - 1)) }
@@ -95,24 +92,18 @@ fn next_candidate(
         rows.new status.new work.old work.new result }
 {
     let front = n - 1;
-    let mut i = from;
-    while i < reached {
+    for i in from..reached {
         let q = search::state_of(&work[..front], i, 0);
         let count = prepare(first, second, t, n, q, rows, status, &mut work[front..]);
         if count > 0 {
-            return Candidate {
+            return Some(Candidate {
                 code: i,
                 state: q,
                 count,
-            };
+            });
         }
-        i += 1;
     }
-    Candidate {
-        code: reached,
-        state: 0,
-        count: 0,
-    }
+    None
 }
 
 // The table of the leading states and, in the first cells, the codes of those reached; their number.
@@ -152,28 +143,30 @@ fn find(
 {
     let front = n - 1;
     let reached = start(first, second, t, n, leads, status, work);
-    let mut out = Codes::Absent(reached);
-    let mut c = next_candidate(first, second, t, n, reached, 0, rows, status, work);
-    'search: while c.code < reached {
-        let q = c.state;
+    let mut lasso = None;
+    let mut next = next_candidate(first, second, t, n, reached, 0, rows, status, work);
+    'search: while let Some(c) = next {
         let all = c.count * n;
         let mut total = 1;
         let mut h = 0;
         while h < total {
-            let step = search::expand(
+            match search::expand(
                 leads,
                 rows,
                 n,
                 t.letters,
-                q,
+                c.state,
                 h,
                 total,
                 &mut status[..all],
                 &mut work[front..],
-            );
-            match step {
+            ) {
                 Expansion::Ending(code) => {
-                    out = Codes::Found(reached, c.code, code);
+                    let found = LassoCodes {
+                        prefix: c.code,
+                        period: code,
+                    };
+                    lasso = Some(found);
                     break 'search;
                 }
                 Expansion::On(codes) => {
@@ -182,58 +175,27 @@ fn find(
             }
             h += 1;
         }
-        c = next_candidate(first, second, t, n, reached, c.code + 1, rows, status, work);
+        next = next_candidate(first, second, t, n, reached, c.code + 1, rows, status, work);
     }
-    out
+    Codes { reached, lasso }
 }
 
-// The search with small tables and room for 8,192 combinations; with tables for any sheets; and with room for as many
-// combinations as there can be.
-fn find_small(first: &[u8], second: &[u8], t: Beside, n: usize, work: &mut [u64]) -> Codes
-    requires { CanFind first.now second.now t n 2048 2048 8192 (length work.old) }
+// The search with tables of so many cells and room for so many combinations. Each pair of sizes is called from one
+// place in `locate`.
+fn find_within<const TABLE: usize, const STATUS: usize>(
+    first: &[u8],
+    second: &[u8],
+    t: Beside,
+    n: usize,
+    work: &mut [u64],
+) -> Codes
+    requires sizes { (TABLE ≤ 32768) × (STATUS ≤ 1048576) }
+    requires room { CanFind first.now second.now t n TABLE TABLE STATUS (length work.old) }
     ensures { Located (difference first.now second.now) work.new result }
 {
-    let mut leads = [0u16; 2048];
-    let mut rows = [0u16; 2048];
-    let mut status = [0u8; 8192];
-    find(
-        first,
-        second,
-        t,
-        n,
-        &mut leads,
-        &mut rows,
-        &mut status,
-        work,
-    )
-}
-
-fn find_few(first: &[u8], second: &[u8], t: Beside, n: usize, work: &mut [u64]) -> Codes
-    requires { CanFind first.now second.now t n 32768 32768 8192 (length work.old) }
-    ensures { Located (difference first.now second.now) work.new result }
-{
-    let mut leads = [0u16; 32768];
-    let mut rows = [0u16; 32768];
-    let mut status = [0u8; 8192];
-    find(
-        first,
-        second,
-        t,
-        n,
-        &mut leads,
-        &mut rows,
-        &mut status,
-        work,
-    )
-}
-
-fn find_many(first: &[u8], second: &[u8], t: Beside, n: usize, work: &mut [u64]) -> Codes
-    requires { CanFind first.now second.now t n 32768 32768 1048576 (length work.old) }
-    ensures { Located (difference first.now second.now) work.new result }
-{
-    let mut leads = [0u16; 32768];
-    let mut rows = [0u16; 32768];
-    let mut status = [0u8; 1048576];
+    let mut leads = [0u16; TABLE];
+    let mut rows = [0u16; TABLE];
+    let mut status = [0u8; STATUS];
     find(
         first,
         second,
@@ -255,13 +217,10 @@ pub fn locate(first: &[u8], second: &[u8], sizes: PairSizes, work: &mut [u64]) -
     let t = pairing::leads(first, second);
     let n = sizes.pairs;
     if work.len() > 8192 {
-        return find_many(first, second, t, n, work);
+        return find_within::<32768, 1048576>(first, second, t, n, work);
     }
-    if n * t.letters > 2048 {
-        return find_few(first, second, t, n, work);
+    if n * t.letters > 2048 || sizes.widest * t.letters > 2048 {
+        return find_within::<32768, 8192>(first, second, t, n, work);
     }
-    if sizes.widest * t.letters > 2048 {
-        return find_few(first, second, t, n, work);
-    }
-    find_small(first, second, t, n, work)
+    find_within::<2048, 8192>(first, second, t, n, work)
 }

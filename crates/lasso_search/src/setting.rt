@@ -33,11 +33,7 @@ pub fn set_status(
     ensures { Fresh status.new n q count (ends_at first.now second.now m) }
 {
     search::refresh(status);
-    let mut at = q;
-    let mut y = 0;
-    while y < count {
-        status[at] = status_of(first, second, m, y);
-        at += n;
-        y += 1;
+    for y in 0..count {
+        status[y * n + q] = status_of(first, second, m, y);
     }
 }

@@ -1,38 +1,37 @@
 // The lasso that was found, written where it fits.
 ghost use Rattle.lasso_search.specs.Codes.{CanTell, Tells};
 
-use crate::{Finding, Reported};
-use slices::{Part, refuse};
+use crate::{Finding, LassoCodes, Reported};
+use slices::{Part, Reason, Refusal, refuse};
 
-// Writes the lasso with the codes i and h.
+// Writes the lasso that has the codes.
 pub fn tell(
     reached: usize,
-    i: usize,
-    h: usize,
+    lasso: LassoCodes,
     front: usize,
     work: &[u64],
     opening: &mut [u8],
     period: &mut [u8],
-) -> Reported
-    requires { CanTell front work.now i h }
-    ensures { Tells front work.now i h reached
+) -> Result<Reported, Refusal>
+    requires { CanTell front work.now lasso }
+    ensures { Tells front work.now lasso reached
         (record { opening = opening.old; period = period.old })
         (record { opening = opening.new; period = period.new })
         result }
 {
-    let u = search::depth(&work[..front], i);
-    let v = search::depth(&work[front..], h);
+    let u = search::depth(&work[..front], lasso.prefix);
+    let v = search::depth(&work[front..], lasso.period);
     if opening.len() < u {
-        return Reported::Refused(refuse(23, Part::Opening, u));
+        return Err(refuse(Reason::FoundTooLong, Part::Opening, u));
     }
     if period.len() < v {
-        return Reported::Refused(refuse(23, Part::Loop, v));
+        return Err(refuse(Reason::FoundTooLong, Part::Loop, v));
     }
-    search::fill(&work[..front], i, u, opening);
-    search::fill(&work[front..], h, v, period);
-    Reported::Found(Finding {
+    search::fill(&work[..front], lasso.prefix, u, opening);
+    search::fill(&work[front..], lasso.period, v, period);
+    Ok(Reported::Found(Finding {
         reached,
         prefix: u,
         period: v,
-    })
+    }))
 }

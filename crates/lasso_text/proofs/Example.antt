@@ -1,4 +1,5 @@
 -- The text of a lasso, byte for byte, and refusals of texts, each at its place. Assumes nothing.
+use Rattle.slices.specs.declared.Reason.TheVariants.{EmptyLoop, UnknownLetter, OffLayout}
 use mathlib.Core.Path.{◌≡◌, refl}
 use mathlib.Core.List.{[], ◌∷◌}
 use Prim.Native.String.{String}
@@ -24,11 +25,11 @@ abbrev says : String → Fault
 says text = text_fault (words_of 32 First (bytes text))
 
 -- no text; the names alone; openings alone; the end within a line; an opening after the loop; a letter that is too large; a carriage return;
--- a byte that begins no line, before any loop line: it is 11 that goes before 8
+-- a byte that begins no line, before any loop line: that it departs from the layout goes before that it has none
 pub refusals :
-    (says "" ≡ fault_of 11 First 0) × (says "part scene\n" ≡ fault_of 8 First 11) × (says "part scene\nopening 7\n" ≡ fault_of 8 First 21)
-    × (says "part scene\nl" ≡ fault_of 11 First 12) × (says "part scene\nloop 0\nopening 7\n" ≡ fault_of 11 First 18)
-    × (says "part scene\nloop 32" ≡ fault_of 9 First 16) × (says "part scene\nloop 0\n\r" ≡ fault_of 11 First 18)
-    × (says "part scene\nx" ≡ fault_of 11 First 11) × (says "part scene\nopening 7\nx" ≡ fault_of 11 First 21)
+    (says "" ≡ fault_of OffLayout First 0) × (says "part scene\n" ≡ fault_of EmptyLoop First 11) × (says "part scene\nopening 7\n" ≡ fault_of EmptyLoop First 21)
+    × (says "part scene\nl" ≡ fault_of OffLayout First 12) × (says "part scene\nloop 0\nopening 7\n" ≡ fault_of OffLayout First 18)
+    × (says "part scene\nloop 32" ≡ fault_of UnknownLetter First 16) × (says "part scene\nloop 0\n\r" ≡ fault_of OffLayout First 18)
+    × (says "part scene\nx" ≡ fault_of OffLayout First 11) × (says "part scene\nopening 7\nx" ≡ fault_of OffLayout First 21)
 unfolding words_of reading seq each labelled repeated repeats least number_at_value run_of value_of first_outside_of
 refusals = (refl, refl, refl, refl, refl, refl, refl, refl, refl)

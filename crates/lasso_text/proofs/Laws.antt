@@ -1,4 +1,7 @@
 -- Reading succeeds exactly on the texts of lassos, and reading and writing are inverse, in terms of what is refused. Assumes nothing.
+use Rattle.slices.specs.declared.Reason.TheVariants.{TooLittleRoom}
+use Rattle.std.specs.Prelude.{Result, Ok, Err}
+use Rattle.slices.specs.declared.Refusal.{Refusal}
 use mathlib.Core.Path.{◌≡◌, refl, ap, sym, ◌∙◌}
 use mathlib.Core.List.{List}
 use Prim.Native.Nat.{ℕ, ◌≤◌}
@@ -8,7 +11,7 @@ use lib.ListN.{length}
 use Rattle.slices.specs.Capped.{capped}
 use Rattle.slices.specs.declared.Part.{Part}
 use Rattle.slices.specs.declared.Part.TheVariants.{Out}
-use Rattle.slices.specs.Refusals.{sound, when, Result, given, refused}
+use Rattle.slices.specs.Refusals.{sound, when}
 use Rattle.slices.specs.LassoLetters.{letters_fault}
 use Rattle.slices.proofs.Refusals.{passed, faulty, then-left}
 use Rattle.fdfa.specs.Family.{Words}
@@ -18,9 +21,9 @@ use Rattle.lasso_text.specs.Reading.{words_of, words_in, text_fault, room_fault,
 use Rattle.lasso_text.specs.Writing.{write_fault}
 use Rattle.lasso_text.proofs.Texts.{text-words, words-was}
 
-sound-given : (x : Result Words) → text_fault x ≡ sound → x ≡ given (words_in x)
-sound-given (given w) e = refl
-sound-given (refused r) e = absurd (faulty e)
+sound-given : (x : Result Words Refusal) → text_fault x ≡ sound → x ≡ Ok (words_in x)
+sound-given (Ok w) e = refl
+sound-given (Err r) e = absurd (faulty e)
 
 module _ (s : ℕ) (part : Part) where
   -- the text of a lasso is not refused, its words are the lasso, and only the room is judged
@@ -32,7 +35,7 @@ module _ (s : ℕ) (part : Part) where
     text-lasso = ap words_in (text-words s part small u v readable)
 
     pub text-read : (o p : ℕ) → read_fault (words_of s part (lasso_text_of u v)) o p ≡ room_fault (record { prefix = u; period = v }) o p
-    text-read o p = ap (λ (x : Result Words). read_fault x o p) (text-words s part small u v readable)
+    text-read o p = ap (λ (x : Result Words Refusal). read_fault x o p) (text-words s part small u v readable)
 
   -- a text that is not refused is that of the lasso which is read
   pub read_is : (t : List ℕ) → text_fault (words_of s part t) ≡ sound
@@ -64,6 +67,6 @@ module _ (part : Part) (t : List ℕ) (fine : text_fault (words_of 32 part t) �
   pub read-text : lasso_text_of w.prefix w.period ≡ t
   read-text = sym (read_is 32 part t fine).1
 
-  pub read-written : (room : ℕ) → write_fault w.prefix w.period room ≡ when (ltb room (length t)) 21 Out (capped (length t))
+  pub read-written : (room : ℕ) → write_fault w.prefix w.period room ≡ when (ltb room (length t)) TooLittleRoom Out (capped (length t))
   read-written room =
-      passed _ (lasso-letters 32 w.prefix w.period (read_is 32 part t fine).0) ∙ ap (λ (x : List ℕ). when (ltb room (length x)) 21 Out (capped (length x))) read-text
+      passed _ (lasso-letters 32 w.prefix w.period (read_is 32 part t fine).0) ∙ ap (λ (x : List ℕ). when (ltb room (length x)) TooLittleRoom Out (capped (length x))) read-text

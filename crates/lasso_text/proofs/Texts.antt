@@ -1,4 +1,6 @@
 -- The text of a lasso is read, to that lasso; and what is read is a lasso whose text was read. Assumes nothing.
+use Rattle.std.specs.Prelude.{Result, Ok, Err}
+use Rattle.slices.specs.declared.Refusal.{Refusal}
 use mathlib.Core.Path.{◌≡◌, refl, ap, sym, subst, ◌∙◌}
 use mathlib.Core.Bool.{false}
 use mathlib.Core.List.{List, [], ◌++◌}
@@ -6,7 +8,6 @@ use Prim.Native.Nat.{ℕ, ◌+◌, ◌≤◌, ◌<◌}
 use native.Mathlib.Omega.{arith}
 use lib.ListN.{length, length-append}
 use Rattle.slices.specs.declared.Part.{Part}
-use Rattle.slices.specs.Refusals.{Result, given, refused}
 use Rattle.slices.proofs.Refusals.{never-given}
 use Rattle.slices.specs.Tables.{rows}
 use Rattle.fdfa.specs.Family.{Words, Lasso}
@@ -48,10 +49,10 @@ module _ (s : ℕ) (part : Part) (small : s ≤ 1000) (u v : List ℕ) (lasso : 
   second : At t (11 + length x) y
   second = at_right t 11 x y both
 
-  title-is : reading part t (literal title) 0 ≡ given (record { values = []; next = 11 })
+  title-is : reading part t (literal title) 0 ≡ Ok (record { values = []; next = 11 })
   title-is =
       reading-is part t (literal title) 0 [] (fixed-literal title).fits (subst (At t 0) (sym (fixed-literal title).text) names)
-      ∙ ap (λ (l : List ℕ). given (record { values = []; next = 0 + length l })) (fixed-literal title).text
+      ∙ ap (λ (l : List ℕ). Ok (record { values = []; next = 0 + length l })) (fixed-literal title).text
 
   fits-u : Fits (lines prefix_name s (length u)) u
   fits-u = word_fits prefix_name s u small lasso.prefix
@@ -73,20 +74,20 @@ module _ (s : ℕ) (part : Part) (small : s ≤ 1000) (u v : List ℕ) (lasso : 
       let some : 0 < length v = omega (arith, some_letters v lasso.loops) in
       stands-other t _ 111 108 (11 + length x) (subst (λ (k : ℕ). At t k (letter_line period_name v 0)) z (row_at t (11 + length x) (length v) (letter_line period_name v) second 0 some)) (λ e. omega arith)
 
-  prefix_is : lines_at part t prefix_name (letter s) 11 ≡ given (record { values = u; next = 11 + length x })
+  prefix_is : lines_at part t prefix_name (letter s) 11 ≡ Ok (record { values = u; next = 11 + length x })
   prefix_is =
       lines-is part t prefix_name (letter s) 11 (length u) u (omega arith) fits-u (subst (At t 11) (sym text-u) first) (ap (λ (l : List ℕ). stands t 111 (11 + length l)) text-u ∙ begins)
-      ∙ ap (λ (l : List ℕ). given (record { values = u; next = 11 + length l })) text-u
+      ∙ ap (λ (l : List ℕ). Ok (record { values = u; next = 11 + length l })) text-u
 
   end : 11 + length x + length y ≡ length t
   end = omega (arith, text-long u v)
 
-  period_is : lines_at part t period_name (letter s) (11 + length x) ≡ given (record { values = v; next = 11 + length x + length y })
+  period_is : lines_at part t period_name (letter s) (11 + length x) ≡ Ok (record { values = v; next = 11 + length x + length y })
   period_is =
       lines-is part t period_name (letter s) (11 + length x) (length v) v (omega arith) fits-v (subst (At t (11 + length x)) (sym text-v) second) (ap (λ (l : List ℕ). stands t 108 (11 + length x + length l)) text-v ∙ stands-past t 108 (11 + length x + length y) (omega (arith, end)))
-      ∙ ap (λ (l : List ℕ). given (record { values = v; next = 11 + length x + length l })) text-v
+      ∙ ap (λ (l : List ℕ). Ok (record { values = v; next = 11 + length x + length l })) text-v
 
-  pub text-words : words_of s part (lasso_text_of u v) ≡ given (record { prefix = u; period = v })
+  pub text-words : words_of s part (lasso_text_of u v) ≡ Ok (record { prefix = u; period = v })
   unfolding words_of
   text-words =
       ap (named s part t) title-is
@@ -142,7 +143,7 @@ module _ (s : ℕ) (part : Part) (t : List ℕ) (w : Words) where
       second : At t (11 + length x) y
       second = subst (λ (k : ℕ). At t k y) at_y (subst (At t g.next) text-y c.here)
 
-  pub words-was : words_of s part t ≡ given w → Lasso s w.prefix w.period × (t ≡ lasso_text_of w.prefix w.period)
+  pub words-was : words_of s part t ≡ Ok w → Lasso s w.prefix w.period × (t ≡ lasso_text_of w.prefix w.period)
   unfolding words_of
   words-was d = titled (reading part t (literal title) 0) refl d
     where
@@ -152,17 +153,17 @@ module _ (s : ℕ) (part : Part) (t : List ℕ) (w : Words) where
       within : (f : Found) → Read t (literal title) 0 f → f.next ≤ length t
       within f a = omega (arith, a.next, a.here.within)
 
-      lined : (f g : Found) → Read t (literal title) 0 f → lines_at part t prefix_name (letter s) f.next ≡ given g → ended part t g.values (lines_at part t period_name (letter s) g.next) ≡ given w → Was w
+      lined : (f g : Found) → Read t (literal title) 0 f → lines_at part t prefix_name (letter s) f.next ≡ Ok g → ended part t g.values (lines_at part t period_name (letter s) g.next) ≡ Ok w → Was w
       lined f g a e k =
           let b = lines-was part t prefix_name (letter s) f.next g (within f a) e in
           let z = ended-was part t g.values (lines_at part t period_name (letter s) g.next) k in
           let c = lines-was part t period_name (letter s) g.next z.found (omega (arith, b.next, b.here.within)) z.says in
           subst Was (sym z.answer) (joined f g z.found a b c z.end z.some)
 
-      opens : (f : Found) → Read t (literal title) 0 f → (z : Result Found) → lines_at part t prefix_name (letter s) f.next ≡ z → opened s part t z ≡ given w → Was w
-      opens f a (refused r) e k = absurd (never-given k)
-      opens f a (given g) e k = lined f g a e k
+      opens : (f : Found) → Read t (literal title) 0 f → (z : Result Found Refusal) → lines_at part t prefix_name (letter s) f.next ≡ z → opened s part t z ≡ Ok w → Was w
+      opens f a (Err r) e k = absurd (never-given k)
+      opens f a (Ok g) e k = lined f g a e k
 
-      titled : (z : Result Found) → reading part t (literal title) 0 ≡ z → named s part t z ≡ given w → Was w
-      titled (refused r) e k = absurd (never-given k)
-      titled (given f) e k = opens f (reading-was part t (literal title) 0 f (omega arith) e) (lines_at part t prefix_name (letter s) f.next) refl k
+      titled : (z : Result Found Refusal) → reading part t (literal title) 0 ≡ z → named s part t z ≡ Ok w → Was w
+      titled (Err r) e k = absurd (never-given k)
+      titled (Ok f) e k = opens f (reading-was part t (literal title) 0 f (omega arith) e) (lines_at part t prefix_name (letter s) f.next) refl k

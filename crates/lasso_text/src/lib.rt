@@ -11,9 +11,9 @@ pub use writing::{put_lasso, write};
 // The letters that a text may have are those below it.
 const LETTERS: usize = 32;
 
-// What reading answers: the lengths of prefix and period, which are filled; or the refusal.
-#[derive(Clone, Copy)]
-pub enum Lengths {
-    Filled(usize, usize),
-    Refused(Refusal),
+// The lengths of both words.
+#[derive(Clone, Copy, Debug, PartialEq, Eq)]
+pub struct Lengths {
+    pub prefix: usize,
+    pub period: usize,
 }

@@ -10,17 +10,15 @@ ghost use Rattle.lasso_text.specs.Writing.{write_fault};
 use crate::LETTERS;
 use format::put_literal;
 use numbers::{put_field, width};
-use slices::{Letters, Part, Written, check_lasso, refuse, sum, wide};
+use slices::{Part, Reason, Refusal, check_lasso, refuse, sum};
 
 // How long the lines of a word are, after `from` bytes.
 fn measure(name: &[u8], word: &[u8], from: usize) -> usize
     ensures { result ≡ capped (from + length (letter_lines name.now word.now)) }
 {
     let mut p = from;
-    let mut i = 0;
-    while i < word.len() {
-        p = sum(p, name.len() + width(wide(word[i])) + 1);
-        i += 1;
+    for &letter in word {
+        p = sum(p, name.len() + width(usize::from(letter)) + 1);
     }
     p
 }
@@ -31,7 +29,7 @@ fn put_letter(name: &[u8], letter: u8, out: &mut [u8], at: usize) -> usize
     ensures { Stored out.old at (name.now ++ field letter 10) out.new result }
 {
     let named = put_literal(name, out, at);
-    put_field(wide(letter), b'\n', out, named)
+    put_field(usize::from(letter), b'\n', out, named)
 }
 
 // The lines of a word.
@@ -40,10 +38,8 @@ fn put_letters(name: &[u8], word: &[u8], out: &mut [u8], at: usize) -> usize
     ensures { Stored out.old at (letter_lines name.now word.now) out.new result }
 {
     let mut p = at;
-    let mut i = 0;
-    while i < word.len() {
-        p = put_letter(name, word[i], out, p);
-        i += 1;
+    for &letter in word {
+        p = put_letter(name, letter, out, p);
     }
     p
 }
@@ -59,22 +55,17 @@ pub fn put_lasso(prefix: &[u8], period: &[u8], out: &mut [u8], at: usize) -> usi
 }
 
 // Writes the text of a lasso into the out slice, from its start.
-pub fn write(prefix: &[u8], period: &[u8], out: &mut [u8]) -> Written
+pub fn write(prefix: &[u8], period: &[u8], out: &mut [u8]) -> Result<usize, Refusal>
     ensures { Fills (write_fault prefix.now period.now (length out.old))
         (lasso_text_of prefix.now period.now) out.old out.new result }
 {
-    let letters = check_lasso(prefix, period, LETTERS);
-    match letters {
-        Letters::Refused(r) => Written::Refused(r),
-        Letters::Known => {
-            let opened = measure(b"opening ", prefix, 11);
-            let need = measure(b"loop ", period, opened);
-            let short = out.len() < need;
-            if short {
-                return Written::Refused(refuse(21, Part::Out, need));
-            }
-            put_lasso(prefix, period, out, 0);
-            Written::Filled(need)
-        }
+    check_lasso(prefix, period, LETTERS)?;
+    let opened = measure(b"opening ", prefix, 11);
+    let need = measure(b"loop ", period, opened);
+    let short = out.len() < need;
+    if short {
+        return Err(refuse(Reason::TooLittleRoom, Part::Out, need));
     }
+    put_lasso(prefix, period, out, 0);
+    Ok(need)
 }

@@ -1,5 +1,7 @@
 -- Sheet and lasso: none is refused exactly if the sheet is valid and the lasso is one over its letters. The prefix is refused exactly where
 -- the pass over it fails. Assumes nothing.
+use Rattle.slices.specs.declared.Reason.TheVariants.{EmptyLoop, UnknownLetter}
+use Rattle.std.specs.Prelude.{Ok}
 use mathlib.Core.Path.{◌≡◌, refl, ap, sym, subst, ◌∙◌}
 use mathlib.Core.Bool.{Bool, true, false, true≢false}
 use mathlib.Core.List.{List}
@@ -8,7 +10,7 @@ use native.Mathlib.Omega.{arith}
 use lib.Dec.{eqb, ltb}
 use lib.ListN.{length}
 use Rattle.slices.specs.declared.Part.TheVariants.{First, Opening, Loop}
-use Rattle.slices.specs.Refusals.{Fault, sound, fault, fault_of, ◌then◌, when, given}
+use Rattle.slices.specs.Refusals.{Fault, sound, fault, fault_of, ◌then◌, when}
 use Rattle.slices.specs.LassoLetters.{period_fault, letters_fault}
 use Rattle.slices.specs.Scans.{first_outside_of}
 use Rattle.slices.proofs.Capped.{capped_is}
@@ -45,7 +47,7 @@ period-only : (s : ℕ) (v : List ℕ) → OfThePeriod (period_fault s v)
 unfolding period_fault
 period-only s v = by (eqb (length v) 0) (ltb (first_outside_of 0 s v 0 (length v)) (length v))
   where
-    by : (x y : Bool) → OfThePeriod (when x 8 Loop 0 then when y 9 Loop (0 + first_outside_of 0 s v 0 (length v)))
+    by : (x y : Bool) → OfThePeriod (when x EmptyLoop Loop 0 then when y UnknownLetter Loop (0 + first_outside_of 0 s v 0 (length v)))
     by true y = refl
     by false true = refl
     by false false = tt
@@ -53,7 +55,7 @@ period-only s v = by (eqb (length v) 0) (ltb (first_outside_of 0 s v 0 (length v
 loop-other : Loop ≡ Opening → ⊥
 loop-other e = true≢false cc
 
-place-was : {i j : ℕ} → fault_of 9 Opening i ≡ fault_of 9 Opening j → i ≡ j
+place-was : {i j : ℕ} → fault_of UnknownLetter Opening i ≡ fault_of UnknownLetter Opening j → i ≡ j
 place-was e = ap place e
   where
     place : Fault → ℕ
@@ -66,18 +68,18 @@ module _ (b u v : List ℕ) (valid : Valid b) (short : length u ≤ 184467440737
   unfolding lasso_fault
   letters e = passed _ (valid-sound First b valid) ∙ e
 
-  pub unknown-refused : (i : ℕ) → passed_of b start u ≡ given (unknown i) → lasso_fault b u v ≡ fault_of 9 Opening i
+  pub unknown-refused : (i : ℕ) → passed_of b start u ≡ Ok (unknown i) → lasso_fault b u v ≡ fault_of UnknownLetter Opening i
   unknown-refused i e =
       let k = (unknown-prefix b u e).1 in
       let same : i ≡ k.0 = k.2 ∙ capped_is k.0 (omega (arith, k.1.within, short)) in
-      letters (unknown-fault _ u v k.0 k.1 ∙ ap (fault_of 9 Opening) (sym same))
+      letters (unknown-fault _ u v k.0 k.1 ∙ ap (fault_of UnknownLetter Opening) (sym same))
 
-  pub refused-unknown : (i : ℕ) → lasso_fault b u v ≡ fault_of 9 Opening i → passed_of b start u ≡ given (unknown i)
+  pub refused-unknown : (i : ℕ) → lasso_fault b u v ≡ fault_of UnknownLetter Opening i → passed_of b start u ≡ Ok (unknown i)
   refused-unknown i e = by (judged (letter_count b) u)
     where
-      by : Judged (letter_count b) u → passed_of b start u ≡ given (unknown i)
+      by : Judged (letter_count b) u → passed_of b start u ≡ Ok (unknown i)
       by (known o) =
           absurd (loop-other (sym (subst OfThePeriod (sym (letters (known-fault _ u v o)) ∙ e) (period-only (letter_count b) v))))
       by (stops k h) =
           let place : k ≡ i = place-was (sym (letters (unknown-fault _ u v k h)) ∙ e) in
-          prefix-unknown b u valid k h ∙ ap (λ (n : ℕ). given (unknown n)) (capped_is k (omega (arith, h.within, short)) ∙ place)
+          prefix-unknown b u valid k h ∙ ap (λ (n : ℕ). Ok (unknown n)) (capped_is k (omega (arith, h.within, short)) ∙ place)

@@ -1,6 +1,7 @@
 -- What the inner functions of the verdict find, in the model's terms. Assumes nothing.
-use Rattle.std.specs.Prelude.{◌≡◌, List, ℕ, ◌<◌}
-use Rattle.slices.specs.Refusals.{Result, given, refused, unless}
+use Rattle.slices.specs.declared.Refusal.{Refusal}
+use Rattle.std.specs.Prelude.{◌≡◌, List, ℕ, ◌<◌, Result}
+use Rattle.slices.specs.Refusals.{unless}
 use Rattle.slices.specs.LassoLetters.{letters_fault}
 use Rattle.fdfa.specs.Words.{power}
 use Rattle.fdfa.specs.Family.{Fdfa, walk}
@@ -8,21 +9,15 @@ use Rattle.fdfa.specs.Normalization.{Smallest}
 use Rattle.fdfa.specs.Acceptance.{Verdict, verdict}
 use Rattle.packed.specs.Layout.{letter_count, decode}
 use Rattle.packed.specs.Columns.{column_step, Walkable}
-use Rattle.membership.specs.declared.Checked.{Checked}
-use Rattle.membership.specs.declared.Checked.TheVariants as checked
 use Rattle.membership.specs.declared.Normalization.{Normalization}
 use Rattle.membership.specs.declared.Ended.{Ended}
 
 -- What the check of a lasso says, by a table by letter of s letters: the state after the prefix, or the refusal.
-abbrev pub checked_lasso : List ℕ → ℕ → List ℕ → List ℕ → Result ℕ
+abbrev pub checked_lasso : List ℕ → ℕ → List ℕ → List ℕ → Result ℕ Refusal
 checked_lasso t s u v = unless (letters_fault s u v) (walk (column_step t) 0 u)
 
-abbrev pub check_says : Checked → Result ℕ
-check_says (checked.Lasso q) = given q
-check_says (checked.Refused r) = refused r
-
 -- The verdict of a valid sheet: the refusals of the lasso alone.
-abbrev pub judged_lasso : List ℕ → List ℕ → List ℕ → Result Verdict
+abbrev pub judged_lasso : List ℕ → List ℕ → List ℕ → Result Verdict Refusal
 judged_lasso b u v = unless (letters_fault (letter_count b) u v) (verdict (decode b) u v)
 
 -- The states after 0, 1, .. turns of the period from a state, by a table by letter.

@@ -6,38 +6,26 @@ ghost use Rattle.fdfa.specs.Words.{Over};
 ghost use Rattle.packed.specs.Layout.{letter_count, state_count, decode, Valid};
 ghost use Rattle.packed.specs.Faults.{sizes_of};
 ghost use Rattle.prefix_pass.specs.Steps.{Stepping};
-ghost use Rattle.slices.specs.declared.Refusal.{Refusal};
 ghost use Rattle.membership.specs.Verdict.{verdict_of, says_of};
-ghost use Rattle.membership.specs.Steps.{checked_lasso, check_says, judged_lasso, turns_from, Turning, Returns};
+ghost use Rattle.membership.specs.Steps.{checked_lasso, judged_lasso, turns_from, Turning, Returns};
 ghost use Rattle.membership.specs.Steps.{ended_of};
 
-use packed::{Sizes, Validity};
+use packed::Sizes;
 use prefix_pass::{Held, pass_on, start};
-use slices::{Letters, Part, Refusal, check_period, refuse};
+use slices::{Part, Reason, Refusal, check_period, refuse};
 
-// The verdict: whether the lasso is accepted, i and j, the leading state q after u and i turns, and the state of q's
-// progress automaton after j turns.
-#[derive(Clone, Copy)]
-pub enum Judgement {
-    Given {
-        accepted: bool,
-        i: usize,
-        j: usize,
-        state: usize,
-        end: usize,
-    },
-    Refused(Refusal),
-}
-
-// What the check of a lasso says: the leading state that the pass over the prefix reached, or the refusal.
-#[derive(Clone, Copy)]
-enum Checked {
-    Lasso(usize),
-    Refused(Refusal),
+// The verdict: whether the lasso is accepted, i and j, the leading state it waits at, the progress state it ends at.
+#[derive(Clone, Copy, Debug, PartialEq, Eq)]
+pub struct Judgement {
+    pub accepted: bool,
+    pub i: usize,
+    pub j: usize,
+    pub state: usize,
+    pub end: usize,
 }
 
 // The normalization of a lasso: i, j and q.
-#[derive(Clone, Copy)]
+#[derive(Clone, Copy, Debug, PartialEq, Eq)]
 struct Normalization {
     i: usize,
     j: usize,
@@ -45,26 +33,22 @@ struct Normalization {
 }
 
 // Where the progress automaton ends, and whether it accepts there.
-#[derive(Clone, Copy)]
+#[derive(Clone, Copy, Debug, PartialEq, Eq)]
 struct Ended {
     end: usize,
     accepted: bool,
 }
 
 // Whether the words are a lasso over the letters: the prefix in one pass by the leading table, then the period.
-fn check(table: &[u8], letters: usize, prefix: &[u8], period: &[u8]) -> Checked
+fn check(table: &[u8], letters: usize, prefix: &[u8], period: &[u8]) -> Result<usize, Refusal>
     requires { Stepping table.now letters }
-    ensures { check_says result ≡ checked_lasso table.now letters prefix.now period.now }
+    ensures { result ≡ checked_lasso table.now letters prefix.now period.now }
 {
-    let held = pass_on(table, letters, start(), prefix);
-    match held {
-        Held::Unknown(i) => Checked::Refused(refuse(9, Part::Opening, i)),
-        Held::Reached { state, at: _ } => {
-            let judged = check_period(period, letters);
-            match judged {
-                Letters::Refused(r) => Checked::Refused(r),
-                Letters::Known => Checked::Lasso(state),
-            }
+    match pass_on(table, letters, start(), prefix) {
+        Held::Unknown(i) => Err(refuse(Reason::UnknownLetter, Part::Opening, i)),
+        Held::Reached { state, .. } => {
+            check_period(period, letters)?;
+            Ok(state)
         }
     }
 }
@@ -101,10 +85,8 @@ fn progress(sheet: &[u8], letters: usize, q: usize, period: &[u8], count: usize)
     let k = packed::size(sheet, q);
     let table = packed::columns(sheet, at, letters, k);
     let mut end = 0;
-    let mut t = 0;
-    while t < count {
+    for _ in 0..count {
         end = packed::walk(&table, end, period);
-        t += 1;
     }
     let marks = at + k * letters;
     Ended {
@@ -113,50 +95,28 @@ fn progress(sheet: &[u8], letters: usize, q: usize, period: &[u8], count: usize)
     }
 }
 
-// A check that refused, as the answer.
-fn refused(c: Checked) -> Judgement
-    ensures { (x : Refusal) → c ≡ Checked.Refused x → result ≡ Judgement.Refused x }
-{
-    match c {
-        Checked::Refused(r) => Judgement::Refused(r),
-        Checked::Lasso(_) => Judgement::Given {
-            accepted: false,
-            i: 0,
-            j: 0,
-            state: 0,
-            end: 0,
-        },
-    }
-}
-
 // The verdict of a good sheet: the walk over the period goes on from where the pass over the prefix came to.
-fn judge(sheet: &[u8], z: Sizes, prefix: &[u8], period: &[u8]) -> Judgement
+fn judge(sheet: &[u8], z: Sizes, prefix: &[u8], period: &[u8]) -> Result<Judgement, Refusal>
     requires { Valid sheet.now × (z ≡ sizes_of sheet.now) }
     ensures { says_of result ≡ judged_lasso sheet.now prefix.now period.now }
 {
     let table = packed::columns(sheet, 2 + z.states, z.letters, z.states);
-    let checked = check(&table, z.letters, prefix, period);
-    let Checked::Lasso(state) = checked else {
-        return refused(checked);
-    };
+    let state = check(&table, z.letters, prefix, period)?;
     let n = normalize(&table, state, period);
     let ended = progress(sheet, z.letters, n.state, period, n.j);
-    Judgement::Given {
+    Ok(Judgement {
         accepted: ended.accepted,
         i: n.i,
         j: n.j,
         state: n.state,
         end: ended.end,
-    }
+    })
 }
 
 // The verdict of the sheet's family on the lasso (01: the show), or the refusal.
-pub fn verdict(sheet: &[u8], prefix: &[u8], period: &[u8]) -> Judgement
+pub fn verdict(sheet: &[u8], prefix: &[u8], period: &[u8]) -> Result<Judgement, Refusal>
     ensures { says_of result ≡ verdict_of sheet.now prefix.now period.now }
 {
-    let validity = packed::check(sheet, Part::First);
-    match validity {
-        Validity::Refused(r) => Judgement::Refused(r),
-        Validity::Valid(z) => judge(sheet, z, prefix, period),
-    }
+    let z = packed::check(sheet, Part::First)?;
+    judge(sheet, z, prefix, period)
 }

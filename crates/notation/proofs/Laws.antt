@@ -1,4 +1,7 @@
 -- Reading succeeds exactly on the texts of valid sheets, at both levels, and reading and writing are inverse. Assumes nothing.
+use Rattle.slices.specs.declared.Reason.TheVariants.{UnknownLevel}
+use Rattle.std.specs.Prelude.{Result, Ok}
+use Rattle.slices.specs.declared.Refusal.{Refusal}
 use mathlib.Core.Path.{◌≡◌, refl, ap, ap₂, sym, subst, ◌∙◌}
 use mathlib.Core.Bool.{Bool}
 use mathlib.Core.List.{List, [], ◌∷◌, ◌++◌, append_assoc}
@@ -7,7 +10,7 @@ use native.Mathlib.Omega.{arith}
 use lib.ListN.{length, get_or, take, drop, length-take}
 use lib.Seq.{length-take-le, take_all, get_or-take}
 use Rattle.slices.specs.declared.Part.TheVariants.{First}
-use Rattle.slices.specs.Refusals.{Fault, sound, when, Result, given, mapped, fault_in, ◌then◌}
+use Rattle.slices.specs.Refusals.{Fault, sound, when, mapped, fault_in, ◌then◌}
 use Rattle.slices.specs.Scans.{outside}
 use Rattle.slices.specs.Seconds.{TimesFit, seconds_fault}
 use Rattle.slices.specs.Tables.{tab, rows}
@@ -83,14 +86,14 @@ module _ (level : ℕ) (low : 3 ≤ level) (high : level < 5) (b : List ℕ) (v 
       ∙ (tab-same m (λ a. get_or w a 0) (λ a. get_or (take m w) a 0) (λ a h. sym (get_or-take m w a 0 h))
       ∙ (ap (λ (k : ℕ). tab k (λ a. get_or (take m w) a 0)) (sym (length-take-le m w fit.many)) ∙ tab-get_or (take m w)))
 
-  text-said : sheet_in (text_of level w b) ≡ given (record { level = level; bytes = b; seconds = take m w })
+  text-said : sheet_in (text_of level w b) ≡ Ok (record { level = level; bytes = b; seconds = take m w })
   unfolding sheet_in text_of
   text-said =
       ap (mapped sheet_of) (text-numbers level low high F packs w fit)
-      ∙ (λ i. given (record { level = level; bytes = bytes i; seconds = cells i }))
+      ∙ (λ i. Ok (record { level = level; bytes = bytes i; seconds = cells i }))
 
 -- what is read is a valid sheet with its seconds, and its text is what was read
-module _ (t : List ℕ) (v : Numbers) (d : numbers_of t ≡ given v) where
+module _ (t : List ℕ) (v : Numbers) (d : numbers_of t ≡ Ok v) where
   abbrev G : Fdfa
   G = family_of v.front v.parts
 
@@ -142,12 +145,12 @@ module _ (t : List ℕ) (v : Numbers) (d : numbers_of t ≡ given v) where
   text-back = sym (text_same l times G (decode (pack G)) (decode-pack G packable)) ∙ family-text
 
 -- The two-way rule, for both levels: reading gives a sheet exactly on its text, and only sheets that have one.
-pub text-read : (x : Sheet) → Writable x → sheet_in (sheet_text x) ≡ given x
+pub text-read : (x : Sheet) → Writable x → sheet_in (sheet_text x) ≡ Ok x
 text-read x w =
     text-said x.level w.low w.high x.bytes w.valid x.seconds w.times
-    ∙ ap (λ (k : List ℕ). given (record { level = x.level; bytes = x.bytes; seconds = k })) (take_all (timed x.level (letter_count x.bytes)) x.seconds (omega (arith, w.exact)))
+    ∙ ap (λ (k : List ℕ). Ok (record { level = x.level; bytes = x.bytes; seconds = k })) (take_all (timed x.level (letter_count x.bytes)) x.seconds (omega (arith, w.exact)))
 
-pub read-text : (t : List ℕ) (x : Sheet) → sheet_in t ≡ given x → Writable x × (sheet_text x ≡ t)
+pub read-text : (t : List ℕ) (x : Sheet) → sheet_in t ≡ Ok x → Writable x × (sheet_text x ≡ t)
 unfolding sheet_in
 read-text t x e =
     let v = mapped-given sheet_of (numbers_of t) e in
@@ -163,22 +166,22 @@ module _ (level : ℕ) (w b : List ℕ) (room : ℕ) (e : write_fault level w b 
 
   good-level : (3 ≤ level) × (level < 5)
   unfolding write_fault
-  good-level = inside 3 5 level (when-sound (outside 3 5 level) 10 First 0 (then-left (when (outside 3 5 level) 10 First 0) _ e))
+  good-level = inside 3 5 level (when-sound (outside 3 5 level) UnknownLevel First 0 (then-left (when (outside 3 5 level) UnknownLevel First 0) _ e))
 
   after-level : sheet_fault First b then times_fault level w b room ≡ sound
   unfolding write_fault
-  after-level = then-right (when (outside 3 5 level) 10 First 0) (sheet_fault First b then times_fault level w b room) e
+  after-level = then-right (when (outside 3 5 level) UnknownLevel First 0) (sheet_fault First b then times_fault level w b room) e
 
   times-good : TimesFit (timed level (letter_count b)) w
   times-good =
       seconds-fit (timed level (letter_count b)) w
       (then-left (seconds_fault (timed level (letter_count b)) w) (out_fault (text_of level w b) room) (then-right (sheet_fault First b) (times_fault level w b room) after-level))
 
-  pub written-said : sheet_in (text_of level w b) ≡ given sheet
+  pub written-said : sheet_in (text_of level w b) ≡ Ok sheet
   written-said = text-said level good-level.0 good-level.1 b (sound-valid First b (then-left (sheet_fault First b) (times_fault level w b room) after-level)) w times-good
 
   pub written_read : (out cells : ℕ) → read_fault (sheet_in (text_of level w b)) out cells ≡ room_fault sheet out cells
-  written_read out cells = ap (λ (x : Result Sheet). read_fault x out cells) written-said
+  written_read out cells = ap (λ (x : Result Sheet Refusal). read_fault x out cells) written-said
 
 -- Of the seconds a text has the cells of the letters that have some, and no others are judged.
 module _ (level : ℕ) (b w u : List ℕ) where
@@ -253,6 +256,6 @@ module _ (t : List ℕ) (e : fault_in (sheet_in t) ≡ sound) where
     read-written room =
         let r = read-writable in
         let long : many ≤ length w = omega (arith, ap length h, length-take (length x.seconds) w, r.exact) in
-        passed _ (when-passes 10 First 0 (not-outside 3 5 x.level r.low r.high))
+        passed _ (when-passes UnknownLevel First 0 (not-outside 3 5 x.level r.low r.high))
         ∙ (passed _ (valid-sound First x.bytes r.valid)
         ∙ (passed _ (fit-seconds many w (times-cells x.level x.bytes w x.seconds same long r.times)) ∙ ap (λ (k : List ℕ). out_fault k room) read_back))

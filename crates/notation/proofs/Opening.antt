@@ -1,4 +1,6 @@
 -- The blocks before the last at the starts of two slices, and what follows from the answer of the rest. Assumes nothing.
+use Rattle.slices.specs.declared.Reason.TheVariants.{OffLayout, TooLittleRoom}
+use Rattle.std.specs.Prelude.{Result, Ok, Err}
 use mathlib.Core.Path.{◌≡◌, refl, ap, sym, subst, ◌∙◌}
 use mathlib.Core.Bool.{Bool, true, false, cond}
 use mathlib.Core.List.{List}
@@ -9,18 +11,12 @@ use lib.ListN.{length, get_or, take, drop}
 use borrow.Author.Tests.{ltb-false}
 use Rattle.slices.specs.declared.Part.TheVariants.{First, Out, Seconds}
 use Rattle.slices.specs.declared.Refusal.{Refusal}
-use Rattle.slices.specs.declared.Written.{Written}
-use Rattle.slices.specs.declared.Written.TheVariants.{Filled, Refused}
-use Rattle.slices.specs.Refusals.{Fault, sound, when, Result, given, refused, mapped, fault_in, written_says}
+use Rattle.slices.specs.Refusals.{Fault, sound, when, mapped, fault_in}
 use Rattle.slices.specs.Filling.{written, filled, Fills}
 use Rattle.slices.proofs.Refusals.{then-left, then-right, when-sound, never-given, given-was, was-given, was-refused, refuses, gives, mapped-given, mapped-refused, sound-given}
 use Rattle.slices.proofs.Filling.{written-front}
 use Rattle.slices.proofs.Tables.{length-tab, get_or-first, tab-same}
-use Rattle.format.specs.declared.Step.{Step}
-use Rattle.format.specs.declared.Step.TheVariants as step
-use Rattle.format.specs.declared.Step.TheVariants.{Next}
 use Rattle.format.specs.Format.{Found, reading, Fits}
-use Rattle.format.specs.Steps.{step_says}
 use Rattle.blocks.specs.Text.{timed, level_in, letters_in, states_in, parts_format}
 use Rattle.blocks.specs.Numbers.{Blocks, blocks_of, cells_of, times_of}
 use Rattle.blocks.specs.Values.{front_format, ReadsBlocks}
@@ -28,25 +24,24 @@ use Rattle.blocks.proofs.Shapes.{FrontFits, front-was}
 use Rattle.blocks.proofs.Durations.{timed-few, seconds-long}
 use Rattle.blocks.proofs.FrontRead.{front_long, front-end}
 use Rattle.blocks.proofs.BlocksText.{BlocksFit, blocks-were}
-use Rattle.notation.specs.declared.Levelled.TheVariants as levelled
 use Rattle.notation.specs.Reading.{Numbers, ended, onward, numbers_of, Sheet, sheet_of, sheet_in, said, room_fault, read_fault, told_of, SheetRead}
 use Rattle.notation.specs.Steps.{Packs, Opened}
 use Rattle.notation.proofs.Outcomes.{packs-as}
 
 -- what was read last leaves the numbers before it
-ended-was : (t : List ℕ) (b : Blocks) (z : Result Found) {v : Numbers} → ended t b z ≡ given v → (v.front ≡ b.front) × (v.timings ≡ b.timings)
-ended-was t b (refused r) e = absurd (never-given e)
-ended-was t b (given f) {v} e = by (eqb f.next (length t)) e
+ended-was : (t : List ℕ) (b : Blocks) (z : Result Found Refusal) {v : Numbers} → ended t b z ≡ Ok v → (v.front ≡ b.front) × (v.timings ≡ b.timings)
+ended-was t b (Err r) e = absurd (never-given e)
+ended-was t b (Ok f) {v} e = by (eqb f.next (length t)) e
   where
-    by : (c : Bool) → cond {A = Result Numbers} c (given (record { front = b.front; timings = b.timings; parts = f.values })) (refused (record { number = 11; part = First; place = f.next })) ≡ given v → (v.front ≡ b.front) × (v.timings ≡ b.timings)
+    by : (c : Bool) → cond {A = Result Numbers Refusal} c (Ok (record { front = b.front; timings = b.timings; parts = f.values })) (Err (record { reason = OffLayout; part = First; place = f.next })) ≡ Ok v → (v.front ≡ b.front) × (v.timings ≡ b.timings)
     by true k = (sym (ap (λ (x : Numbers). x.front) (given-was k)), sym (ap (λ (x : Numbers). x.timings) (given-was k)))
     by false k = absurd (never-given k)
 
 -- where the blocks were read
-module _ (t : List ℕ) {old new seconds seconds' : List ℕ} {r : Step} (d : ReadsBlocks (blocks_of t) old new seconds seconds' r) where
-  pub opened : {e : ℕ} → r ≡ Next e → 1091 ≤ length old → 64 ≤ length seconds → Opened t new seconds' e
+module _ (t : List ℕ) {old new seconds seconds' : List ℕ} {r : Result ℕ Refusal} (d : ReadsBlocks (blocks_of t) old new seconds seconds' r) where
+  pub opened : {e : ℕ} → r ≡ Ok e → 1091 ≤ length old → 64 ≤ length seconds → Opened t new seconds' e
   opened k h l =
-      let b = mapped-given (λ (z : Blocks). z.next) (blocks_of t) (sym d.says ∙ ap step_says k) in
+      let b = mapped-given (λ (z : Blocks). z.next) (blocks_of t) (sym d.says ∙ k) in
       let c = d.cells b.0 b.1 in
       record {
         blocks = b.0;
@@ -60,11 +55,11 @@ module _ (t : List ℕ) {old new seconds seconds' : List ℕ} {r : Step} (d : Re
         seconds_room = omega (arith, l, d.seconds_same);
       }
 
-  pub unopened : {x : Refusal} (out cells : List ℕ) → r ≡ step.Refused x → SheetRead (sheet_in t) out cells out cells (levelled.Refused x)
+  pub unopened : {x : Refusal} (out cells : List ℕ) → r ≡ Err x → SheetRead (sheet_in t) out cells out cells (Err x)
   unfolding sheet_in numbers_of
   unopened {x} out cells k =
-      let e = ap (λ (z : Result Blocks). mapped sheet_of (onward t z)) (mapped-refused (λ (z : Blocks). z.next) (blocks_of t) (sym d.says ∙ ap step_says k)) in
-      subst (λ (z : Result Sheet). SheetRead z out cells out cells (levelled.Refused x)) (sym e) (record { says = refl; sheet = refl; times = refl })
+      let e = ap (λ (z : Result Blocks Refusal). mapped sheet_of (onward t z)) (mapped-refused (λ (z : Blocks). z.next) (blocks_of t) (sym d.says ∙ k)) in
+      subst (λ (z : Result Sheet Refusal). SheetRead z out cells out cells (Err x)) (sym e) (record { says = refl; sheet = refl; times = refl })
 
 module _ {t front rows : List ℕ} {at : ℕ} (o : Opened t front rows at) where
   abbrev blocks : Blocks
@@ -118,7 +113,7 @@ module _ {t front rows : List ℕ} {at : ℕ} (o : Opened t front rows at) where
     needed = subst Needed (sym taken) (inside, fit.front, letters-are, states-are, em ∙ (λ i. timed (level-is i) s))
 
     -- the whole text, as it is read from there
-    abbrev rest : List ℕ → ℕ → Result Numbers
+    abbrev rest : List ℕ → ℕ → Result Numbers Refusal
     rest l p = ended t (record { front = l; timings = blocks.timings; next = p }) (reading First t (parts_format l) p)
 
     whole : numbers_of t ≡ rest (take (3 + n * (s + 2)) front) at
@@ -126,8 +121,8 @@ module _ {t front rows : List ℕ} {at : ℕ} (o : Opened t front rows at) where
     whole = ap (onward t) o.says ∙ (λ i. rest (sym taken i) (o.next i))
 
     -- the answer of the rest
-    module _ (seconds : List ℕ) {out out' : List ℕ} {r : Written} (p : Packs (rest (take (3 + n * (s + 2)) front) at) (length seconds) out out' r) where
-      abbrev x : Result Sheet
+    module _ (seconds : List ℕ) {out out' : List ℕ} {r : Result ℕ Refusal} (p : Packs (rest (take (3 + n * (s + 2)) front) at) (length seconds) out out' r) where
+      abbrev x : Result Sheet Refusal
       x = sheet_in t
 
       abbrev f : Fault
@@ -137,23 +132,23 @@ module _ {t front rows : List ℕ} {at : ℕ} (o : Opened t front rows at) where
       unfolding sheet_in
       fills = packs-as (length seconds) whole p
 
-      pub refused-rest : {z : Refusal} → r ≡ Refused z → SheetRead (sheet_in t) out seconds out' seconds (levelled.Refused z)
+      pub refused-rest : {z : Refusal} → r ≡ Err z → SheetRead (sheet_in t) out seconds out' seconds (Err z)
       refused-rest e =
-          let k = was-refused f (length (said x).bytes) (sym (ap written_says e) ∙ fills.says) in
+          let k = was-refused f (length (said x).bytes) (sym e ∙ fills.says) in
           record {
             says = refuses (told_of (said x)) k;
             sheet = fills.cells;
             times = ap (λ (y : Fault). filled y (said x).seconds seconds) (sym k);
           }
 
-      module _ {k : ℕ} (e : r ≡ Filled k) where
+      module _ {k : ℕ} (e : r ≡ Ok k) where
         sounds : (f ≡ sound) × (k ≡ length (said x).bytes)
-        sounds = was-given f (length (said x).bytes) (sym (ap written_says e) ∙ fills.says)
+        sounds = was-given f (length (said x).bytes) (sym e ∙ fills.says)
 
-        sheet : (y : Sheet) × (x ≡ given y)
+        sheet : (y : Sheet) × (x ≡ Ok y)
         sheet = sound-given x (then-left (fault_in x) (room_fault (said x) (length out) (length seconds)) sounds.0)
 
-        v : (a : Numbers) × (numbers_of t ≡ given a) × (sheet_of a ≡ sheet.0)
+        v : (a : Numbers) × (numbers_of t ≡ Ok a) × (sheet_of a ≡ sheet.0)
         unfolding sheet_in
         v = mapped-given sheet_of (numbers_of t) sheet.1
 
@@ -180,14 +175,14 @@ module _ {t front rows : List ℕ} {at : ℕ} (o : Opened t front rows at) where
 
         pub room : (m ≤ 32) × (m * 2 ≤ length rows) × (m ≤ length seconds)
         room =
-            let short = when (ltb (length out) (length (said x).bytes)) 21 Out (length (said x).bytes) in
-            let untimed = when (ltb (length seconds) (length (said x).seconds)) 21 Seconds (length (said x).seconds) in
-            let h : length (said x).seconds ≤ length seconds = ltb-false (length seconds) (length (said x).seconds) (when-sound (ltb (length seconds) (length (said x).seconds)) 21 Seconds (length (said x).seconds) (then-right short untimed (then-right (fault_in x) (room_fault (said x) (length out) (length seconds)) sounds.0))) in
+            let short = when (ltb (length out) (length (said x).bytes)) TooLittleRoom Out (length (said x).bytes) in
+            let untimed = when (ltb (length seconds) (length (said x).seconds)) TooLittleRoom Seconds (length (said x).seconds) in
+            let h : length (said x).seconds ≤ length seconds = ltb-false (length seconds) (length (said x).seconds) (when-sound (ltb (length seconds) (length (said x).seconds)) TooLittleRoom Seconds (length (said x).seconds) (then-right short untimed (then-right (fault_in x) (room_fault (said x) (length out) (length seconds)) sounds.0))) in
             (few.3, omega (arith, few.3, o.seconds_room), omega (arith, h, ap length cells-said, length-tab m (λ a. get_or rows (a * 2 + 1) 0)))
 
-        pub filled-rest : {seconds' : List ℕ} → seconds' ≡ written (cells_of m rows) seconds → SheetRead (sheet_in t) out seconds out' seconds' (levelled.Filled level k)
+        pub filled-rest : {seconds' : List ℕ} → seconds' ≡ written (cells_of m rows) seconds → SheetRead (sheet_in t) out seconds out' seconds' (Ok (record { level = level; filled = k }))
         filled-rest d = record {
-          says = (λ i. given (record { level = level-said i; filled = sounds.1 i })) ∙ gives (told_of (said x)) sounds.0;
+          says = (λ i. Ok (record { level = level-said i; filled = sounds.1 i })) ∙ gives (told_of (said x)) sounds.0;
           sheet = fills.cells;
           times = d ∙ (ap (λ (l : List ℕ). written l seconds) cells-said ∙ ap (λ (y : Fault). filled y (said x).seconds seconds) (sym sounds.0));
         }

@@ -1,4 +1,7 @@
 -- Writing a text, outcome by outcome. Assumes nothing.
+use Rattle.slices.specs.declared.Reason.TheVariants.{TooLittleRoom}
+use Rattle.std.specs.Prelude.{Result}
+use Rattle.slices.specs.declared.Refusal.{Refusal}
 use mathlib.Core.Path.{◌≡◌, sym, subst, ◌∙◌}
 use mathlib.Core.List.{List}
 use Prim.Native.Nat.{ℕ, ◌≤◌, ◌<◌}
@@ -6,7 +9,6 @@ use lib.Dec.{ltb}
 use lib.ListN.{length}
 use borrow.Author.Tests.{lt-ltb, le-ltb}
 use Rattle.slices.specs.declared.Part.TheVariants.{Out}
-use Rattle.slices.specs.declared.Written.{Written}
 use Rattle.slices.specs.Refusals.{Fault, sound, fault, when}
 use Rattle.slices.specs.Filling.{Fills}
 use Rattle.slices.specs.Seconds.{TimesFit}
@@ -25,12 +27,12 @@ text-is level w b v low high t = sym (text-lines (decode b) (valid-packable b v)
 
 -- the room
 module _ (text old : List ℕ) {need : ℕ} (e : length text ≡ need) where
-  pub too_short_lem : length old < need → out_fault text (length old) ≡ fault (record { number = 21; part = Out; place = need })
-  too_short_lem h = (λ i. when (ltb (length old) (e i)) 21 Out (e i)) ∙ when-fails 21 Out need (lt-ltb (length old) need h)
+  pub too_short_lem : length old < need → out_fault text (length old) ≡ fault (record { reason = TooLittleRoom; part = Out; place = need })
+  too_short_lem h = (λ i. when (ltb (length old) (e i)) TooLittleRoom Out (e i)) ∙ when-fails TooLittleRoom Out need (lt-ltb (length old) need h)
 
   pub enough : need ≤ length old → out_fault text (length old) ≡ sound
-  enough h = (λ i. when (ltb (length old) (e i)) 21 Out (e i)) ∙ when-passes 21 Out need (le-ltb (length old) need h)
+  enough h = (λ i. when (ltb (length old) (e i)) TooLittleRoom Out (e i)) ∙ when-passes TooLittleRoom Out need (le-ltb (length old) need h)
 
 -- tests that were passed before
-pub fills-after : {f g : Fault} {new old out : List ℕ} {r : Written} → f ≡ g → Fills g new old out r → Fills f new old out r
+pub fills-after : {f g : Fault} {new old out : List ℕ} {r : Result ℕ Refusal} → f ≡ g → Fills g new old out r → Fills f new old out r
 fills-after {new = new} {old = old} {out = out} {r = r} e h = subst (λ (x : Fault). Fills x new old out r) (sym e) h

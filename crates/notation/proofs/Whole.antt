@@ -1,4 +1,7 @@
 -- The whole text: the numbers of a family's text are read, and what is read is the text of its numbers. Assumes nothing.
+use Rattle.slices.specs.declared.Reason.TheVariants.{OffLayout}
+use Rattle.std.specs.Prelude.{Result, Ok, Err}
+use Rattle.slices.specs.declared.Refusal.{Refusal}
 use mathlib.Core.Path.{◌≡◌, refl, ap, subst, ◌∙◌}
 use mathlib.Core.Bool.{Bool, true, false, cond}
 use mathlib.Core.List.{List, ◌++◌}
@@ -8,7 +11,6 @@ use lib.Dec.{eqb}
 use lib.ListN.{length, length-append}
 use borrow.Author.Tests.{eqb-true}
 use Rattle.slices.specs.declared.Part.TheVariants.{First}
-use Rattle.slices.specs.Refusals.{Result, given, refused}
 use Rattle.slices.proofs.Refusals.{never-given, given-was}
 use Rattle.slices.specs.Seconds.{TimesFit}
 use Rattle.fdfa.specs.Family.{Fdfa}
@@ -54,18 +56,18 @@ module _ (level : ℕ) (low : 3 ≤ level) (high : level < 5) (F : Fdfa) (P : Pa
   abbrev blocks : Blocks
   blocks = record { front = front_of level F; timings = seconds_of level F.letters w; next = 0 + length x + length y + length z }
 
-  first : blocks_of t ≡ given blocks
+  first : blocks_of t ≡ Ok blocks
   first =
       blocks-are t (counts_of level F) (seconds_of level F.letters w) (leading_of F)
       (counts-block F P level low high) (seconds-fit level F.letters w P.few_letters fit) (leading-block F P)
       (at_left t 0 x (y ++ (z ++ v)) (at_self t)) (at_left t (0 + length x) y (z ++ v) after-counts) (at_left t (0 + length x + length y) z v after-seconds)
 
-  last : reading First t (parts_format (front_of level F)) (0 + length x + length y + length z) ≡ given (record { values = parts_of F; next = 0 + length x + length y + length z + length v })
+  last : reading First t (parts_format (front_of level F)) (0 + length x + length y + length z) ≡ Ok (record { values = parts_of F; next = 0 + length x + length y + length z + length v })
   last =
       reading-is First t (parts_format (front_of level F)) (0 + length x + length y + length z) (parts_of F) (parts-fit F P level)
       (at_right t (0 + length x + length y) z v after-seconds)
 
-  pub text-numbers : numbers_of t ≡ given numbers_for
+  pub text-numbers : numbers_of t ≡ Ok numbers_for
   unfolding numbers_of
   text-numbers =
       ap (onward t) first
@@ -79,12 +81,12 @@ pub record ReadWhole (t : List ℕ) (v : Numbers) : Type 0 where
   pub parts : Fits (parts_format v.front) v.parts
   pub text : t ≡ blocks_text v.front v.timings ++ printed (parts_format v.front) v.parts
 
-pub numbers-was : (t : List ℕ) (v : Numbers) → numbers_of t ≡ given v → ReadWhole t v
+pub numbers-was : (t : List ℕ) (v : Numbers) → numbers_of t ≡ Ok v → ReadWhole t v
 unfolding numbers_of
 numbers-was t v d = front (blocks_of t) refl d
   where
     end : (b : Blocks) (g : Found) → BlocksFit t b → Read t (parts_format b.front) b.next g → (c : Bool) → eqb g.next (length t) ≡ c
-        → cond {A = Result Numbers} c (given (record { front = b.front; timings = b.timings; parts = g.values })) (refused_at 11 First g.next) ≡ given v → ReadWhole t v
+        → cond {A = Result Numbers Refusal} c (Ok (record { front = b.front; timings = b.timings; parts = g.values })) (refused_at OffLayout First g.next) ≡ Ok v → ReadWhole t v
     end b g x y false e k = absurd (never-given k)
     end b g x y true e k =
         let p = blocks_text b.front b.timings in
@@ -95,10 +97,10 @@ numbers-was t v d = front (blocks_of t) refl d
         let long : length (p ++ q) ≡ length t = omega (arith, length-append p q, x.next, y.next, stop) in
         subst (ReadWhole t) (given-was k) (record { front = x.front; seconds = x.seconds; parts = y.fits; text = at-whole t (p ++ q) a long })
 
-    rest : (b : Blocks) → BlocksFit t b → (z : Result Found) → reading First t (parts_format b.front) b.next ≡ z → ended t b z ≡ given v → ReadWhole t v
-    rest b x (refused r) e k = absurd (never-given k)
-    rest b x (given g) e k = end b g x (reading-was First t (parts_format b.front) b.next g (omega (arith, x.next, x.here.within)) e) (eqb g.next (length t)) refl k
+    rest : (b : Blocks) → BlocksFit t b → (z : Result Found Refusal) → reading First t (parts_format b.front) b.next ≡ z → ended t b z ≡ Ok v → ReadWhole t v
+    rest b x (Err r) e k = absurd (never-given k)
+    rest b x (Ok g) e k = end b g x (reading-was First t (parts_format b.front) b.next g (omega (arith, x.next, x.here.within)) e) (eqb g.next (length t)) refl k
 
-    front : (z : Result Blocks) → blocks_of t ≡ z → onward t z ≡ given v → ReadWhole t v
-    front (refused r) e k = absurd (never-given k)
-    front (given b) e k = rest b (blocks-were t e) (reading First t (parts_format b.front) b.next) refl k
+    front : (z : Result Blocks Refusal) → blocks_of t ≡ z → onward t z ≡ Ok v → ReadWhole t v
+    front (Err r) e k = absurd (never-given k)
+    front (Ok b) e k = rest b (blocks-were t e) (reading First t (parts_format b.front) b.next) refl k

@@ -1,4 +1,5 @@
 -- Writing the text of a packed sheet at a level. Assumes nothing.
+use Rattle.slices.specs.declared.Reason.TheVariants.{UnknownLevel, TooLittleRoom}
 use Rattle.std.specs.Prelude.{◌≡◌, List, ℕ, ◌≤◌, ◌<◌, ltb, length}
 use Rattle.slices.specs.declared.Part.TheVariants.{First, Out}
 use Rattle.slices.specs.Refusals.{Fault, ◌then◌, when}
@@ -9,9 +10,9 @@ use Rattle.packed.specs.Faults.{sheet_fault}
 use Rattle.blocks.specs.Text.{timed, text_of}
 use Rattle.notation.specs.Reading.{Sheet}
 
--- 21 where the out slice is too short.
+-- Too little room in the out slice.
 abbrev pub out_fault : List ℕ → ℕ → Fault
-out_fault text room = when (ltb room (length text)) 21 Out (length text)
+out_fault text room = when (ltb room (length text)) TooLittleRoom Out (length text)
 
 -- The seconds of the letters that have some, then the out slice.
 abbrev pub times_fault : ℕ → List ℕ → List ℕ → ℕ → Fault
@@ -19,7 +20,7 @@ times_fault level w b room = seconds_fault (timed level (letter_count b)) w then
 
 -- A level that is neither 3 nor 4; the sheet's fault; the seconds; the out slice.
 unfoldable pub write_fault : ℕ → List ℕ → List ℕ → ℕ → Fault
-write_fault level w b room = when (outside 3 5 level) 10 First 0 then sheet_fault First b
+write_fault level w b room = when (outside 3 5 level) UnknownLevel First 0 then sheet_fault First b
     then times_fault level w b room
 
 -- The text of a sheet with its level and its seconds, and which have one: at level 3 or 4 a valid sheet, with one cell

@@ -6,12 +6,11 @@ mod reading; // reading.rt: what a text says, in lent slices
 mod writing; // writing.rt: the text of a sheet in a lent slice
 
 pub use reading::read;
-use slices::Refusal;
 pub use writing::write;
 
-// What reading a text answers: its level and the length filled, or the refusal.
-#[derive(Clone, Copy)]
-pub enum Levelled {
-    Filled(usize, usize),
-    Refused(Refusal),
+// The level of a text, and the length filled.
+#[derive(Clone, Copy, Debug, PartialEq, Eq)]
+pub struct Levelled {
+    pub level: usize,
+    pub filled: usize,
 }

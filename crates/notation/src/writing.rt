@@ -7,8 +7,7 @@ ghost use Rattle.blocks.specs.Text.{timed, text_of};
 ghost use Rattle.notation.specs.Writing.{out_fault, times_fault, write_fault};
 
 use blocks::{put_sheet, timed};
-use packed::Validity;
-use slices::{Part, Timing, Written, check_seconds, is_outside, refuse};
+use slices::{Part, Reason, Refusal, check_seconds, is_outside, refuse};
 
 // The text of a sheet and of seconds that are good, where there is room for it.
 fn put_text(
@@ -18,7 +17,7 @@ fn put_text(
     n: usize,
     seconds: &[u16],
     out: &mut [u8],
-) -> Written
+) -> Result<usize, Refusal>
     requires valid { Valid sheet.now × (s ≡ letter_count sheet.now) × (n ≡ state_count sheet.now) }
     requires le_level { (3 ≤ level) × (level < 5) × TimesFit (timed level s) seconds.now }
     ensures { Fills (out_fault (text_of level seconds.now sheet.now) (length out.old))
@@ -26,10 +25,10 @@ fn put_text(
 {
     let need = put_sheet(level, sheet, s, n, seconds, &mut out[..0]);
     if out.len() < need {
-        return Written::Refused(refuse(21, Part::Out, need));
+        return Err(refuse(Reason::TooLittleRoom, Part::Out, need));
     }
     put_sheet(level, sheet, s, n, seconds, out);
-    Written::Filled(need)
+    Ok(need)
 }
 
 // The same where the seconds are not judged yet.
@@ -40,38 +39,25 @@ fn put_timed(
     n: usize,
     seconds: &[u16],
     out: &mut [u8],
-) -> Written
+) -> Result<usize, Refusal>
     requires { Valid sheet.now × (s ≡ letter_count sheet.now) × (n ≡ state_count sheet.now) × (3 ≤ level) ×
         (level < 5) }
     ensures { Fills (times_fault level seconds.now sheet.now (length out.old))
         (text_of level seconds.now sheet.now) out.old out.new result }
 {
-    let timing = check_seconds(seconds, timed(level, s));
-    match timing {
-        Timing::Refused(r) => Written::Refused(r),
-        Timing::Good => put_text(level, sheet, s, n, seconds, out),
-    }
+    check_seconds(seconds, timed(level, s))?;
+    put_text(level, sheet, s, n, seconds, out)
 }
 
 // Writes the text of a packed sheet at a level into the out slice, from its start. At level four the seconds of its
 // letters are the first cells of `seconds`; at level three these are not looked at.
-pub fn write(level: usize, sheet: &[u8], seconds: &[u16], out: &mut [u8]) -> Written
+pub fn write(level: usize, sheet: &[u8], seconds: &[u16], out: &mut [u8]) -> Result<usize, Refusal>
     ensures { Fills (write_fault level seconds.now sheet.now (length out.old))
         (text_of level seconds.now sheet.now) out.old out.new result }
 {
     if is_outside(3, 5, level) {
-        return Written::Refused(refuse(10, Part::First, 0));
+        return Err(refuse(Reason::UnknownLevel, Part::First, 0));
     }
-    let validity = packed::check(sheet, Part::First);
-    match validity {
-        Validity::Refused(r) => Written::Refused(r),
-        Validity::Valid(sizes) => put_timed(
-            level,
-            sheet,
-            sizes.letters,
-            sizes.states,
-            seconds,
-            out,
-        ),
-    }
+    let sizes = packed::check(sheet, Part::First)?;
+    put_timed(level, sheet, sizes.letters, sizes.states, seconds, out)
 }

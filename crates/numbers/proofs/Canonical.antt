@@ -1,4 +1,5 @@
 -- A number is read exactly where its digits stand. Assumes nothing.
+use Rattle.std.specs.Prelude.{Result, Ok, Err}
 use mathlib.Core.Path.{◌≡◌, refl, ap, sym, subst, ◌∙◌}
 use mathlib.Core.Bool.{Bool, true, false, cond, not, ◌||◌, ◌&&◌, true≢false}
 use mathlib.Core.List.{List, [], ◌∷◌, ◌++◌}
@@ -15,7 +16,6 @@ use Rattle.slices.proofs.Extremes.{least-is}
 use Rattle.slices.proofs.Scans.{not-outside}
 use Rattle.slices.proofs.Tables.{get_or-first, get_or-second}
 use Rattle.numbers.specs.declared.Number.{Number}
-use Rattle.numbers.specs.declared.Number.TheVariants.{Good, Refused}
 use Rattle.numbers.specs.Digits.{digits_of, field}
 use Rattle.numbers.specs.Numerals.{run_of, value_of, malformed, misread, number_at_value}
 use Rattle.numbers.proofs.Digits.{digits-one, digits-two, digits-three}
@@ -111,34 +111,35 @@ module _ (t : List ℕ) (at : ℕ) (inside : at < length t) (good : malformed (r
   standing (suc (suc (suc (suc r)))) e l h = absurd (omega arith)
 
 -- what was read stands there
-abbrev IsRefused : Number → Type 0
-IsRefused (Refused r) = Unit {0}
-IsRefused (Good v e) = ⊥
+abbrev IsRefused : Result Number Refusal → Type 0
+IsRefused (Err r) = Unit {0}
+IsRefused (Ok n) = ⊥
 
-pub number-was : (part : Part) (t : List ℕ) (at v next : ℕ) → number_at_value part t at ≡ Good v next → NumberRead t at v next
+pub number-was : (part : Part) (t : List ℕ) (at v next : ℕ) → number_at_value part t at ≡ Ok (record { value = v; next = next }) → NumberRead t at v next
 unfolding number_at_value
 number-was part t at v next e = by (leb (length t) at) refl (malformed (run_of t at) (get_or t at 0)) refl e
   where
     by : (a : Bool) → leb (length t) at ≡ a → (b : Bool) → malformed (run_of t at) (get_or t at 0) ≡ b
-        → cond a (misread part (length t)) (cond b (misread part at) (Good (value_of t at (run_of t at)) (at + run_of t at))) ≡ Good v next → NumberRead t at v next
+        → cond a (misread part (length t)) (cond b (misread part at) (Ok (record { value = value_of t at (run_of t at); next = at + run_of t at }))) ≡ Ok (record { value = v; next = next }) → NumberRead t at v next
     by true p b q d = absurd (subst IsRefused d tt)
     by false p true q d = absurd (subst IsRefused d tt)
     by false p false q d =
         let w = well-formed (run_of t at) (get_or t at 0) q in
-        let same : value_of t at (run_of t at) ≡ v = cc in
-        let then : at + run_of t at ≡ next = cc in
+        let whole : ◌≡◌ {A = Number} (record { value = value_of t at (run_of t at); next = at + run_of t at }) (record { value = v; next = next }) = cc in
+        let same : value_of t at (run_of t at) ≡ v = ap (λ (n : Number). n.value) whole in
+        let then : at + run_of t at ≡ next = ap (λ (n : Number). n.next) whole in
         subst (λ (k : ℕ). NumberRead t at v k) then (subst (λ (k : ℕ). NumberRead t at k (at + run_of t at)) same (standing t at (leb-false (length t) at p) q (run_of t at) refl w.0 w.1))
 
 -- where it was refused: from its place on, within the text
-abbrev refused_place : Number → ℕ
-refused_place (Good v next) = 0
-refused_place (Refused r) = r.place
+abbrev refused_place : Result Number Refusal → ℕ
+refused_place (Ok n) = 0
+refused_place (Err r) = r.place
 
-pub refused-within : (part : Part) (t : List ℕ) (at : ℕ) (r : Refusal) → number_at_value part t at ≡ Refused r → at ≤ length t → (at ≤ r.place) × (r.place ≤ length t)
+pub refused-within : (part : Part) (t : List ℕ) (at : ℕ) (r : Refusal) → number_at_value part t at ≡ Err r → at ≤ length t → (at ≤ r.place) × (r.place ≤ length t)
 unfolding number_at_value
 refused-within part t at r e h = by (leb (length t) at) (malformed (run_of t at) (get_or t at 0)) e
   where
-    by : (a b : Bool) → cond a (misread part (length t)) (cond b (misread part at) (Good (value_of t at (run_of t at)) (at + run_of t at))) ≡ Refused r → (at ≤ r.place) × (r.place ≤ length t)
+    by : (a b : Bool) → cond a (misread part (length t)) (cond b (misread part at) (Ok (record { value = value_of t at (run_of t at); next = at + run_of t at }))) ≡ Err r → (at ≤ r.place) × (r.place ≤ length t)
     by true b d = let p : length t ≡ r.place = ap refused_place d in (omega arith, omega arith)
     by false true d = let p : at ≡ r.place = ap refused_place d in (omega arith, omega arith)
     by false false d = absurd (subst IsRefused (sym d) tt)
@@ -196,10 +197,10 @@ module _ (part : Part) (t : List ℕ) (at v end : ℕ) (small : v < 1000) (stop 
   inside : at < length t
   inside = omega (arith, here.within, field-long)
 
-  finish : malformed (length (digits_of v)) (get_or t at 0) ≡ false → value_of t at (length (digits_of v)) ≡ v → number_at_value part t at ≡ Good v (at + length (digits_of v))
+  finish : malformed (length (digits_of v)) (get_or t at 0) ≡ false → value_of t at (length (digits_of v)) ≡ v → number_at_value part t at ≡ Ok (record { value = v; next = (at + length (digits_of v)) })
   finish e d =
       number-good part t at inside (ap (λ (r : ℕ). malformed r (get_or t at 0)) run_is ∙ e)
-      ∙ (λ i. Good ((ap (value_of t at) run_is ∙ d) i) (at + run_is i))
+      ∙ (λ i. Ok (record { value = (ap (value_of t at) run_is ∙ d) i; next = at + run_is i }))
 
   digits-here : (l : List ℕ) → digits_of v ≡ l → At t at (l ++ (end ∷ []))
   digits-here l e = subst (λ (x : List ℕ). At t at (x ++ (end ∷ []))) e here
@@ -207,11 +208,11 @@ module _ (part : Part) (t : List ℕ) (at v end : ℕ) (small : v < 1000) (stop 
   none : at ≡ at + 0
   none = omega arith
 
-  pub number_is : number_at_value part t at ≡ Good v (at + length (digits_of v))
+  pub number_is : number_at_value part t at ≡ Ok (record { value = v; next = (at + length (digits_of v)) })
   unfolding value_of
   number_is = by (dec_lt v 10) (dec_lt v 100)
     where
-      by : Dec (v < 10) → Dec (v < 100) → number_at_value part t at ≡ Good v (at + length (digits_of v))
+      by : Dec (v < 10) → Dec (v < 100) → number_at_value part t at ≡ Ok (record { value = v; next = (at + length (digits_of v)) })
       by (yes l) m =
           let ds = digits-one v l in
           let a = digits-here ((48 + v) ∷ []) ds in

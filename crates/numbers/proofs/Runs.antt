@@ -1,4 +1,5 @@
 -- Runs of digits, and when a run is a number. Assumes nothing.
+use Rattle.std.specs.Prelude.{Ok}
 use mathlib.Core.Path.{◌≡◌, refl, ap, sym, subst, ◌∙◌}
 use mathlib.Core.Bool.{Bool, true, false, not, ◌||◌, ◌&&◌, true≢false}
 use mathlib.Core.List.{List}
@@ -12,7 +13,6 @@ use Rattle.slices.proofs.Extremes.{least-before, least-bound, least-passes}
 use Rattle.slices.specs.Scans.{outside, first_outside_of}
 use Rattle.slices.proofs.Scans.{inside}
 use Rattle.slices.specs.declared.Part.{Part}
-use Rattle.numbers.specs.declared.Number.TheVariants.{Good}
 use Rattle.numbers.specs.Numerals.{run_of, value_of, malformed, misread, number_at_value}
 
 pub run_none : (t : List ℕ) (at : ℕ) → length t ≤ at → 0 ≡ run_of t at
@@ -82,6 +82,6 @@ module _ (part : Part) (t : List ℕ) (at : ℕ) where
   unfolding number_at_value
   number-bad h e = rw (lt-leb (length t) at h, e)
 
-  pub number-good : at < length t → malformed (run_of t at) (get_or t at 0) ≡ false → number_at_value part t at ≡ Good (value_of t at (run_of t at)) (at + run_of t at)
+  pub number-good : at < length t → malformed (run_of t at) (get_or t at 0) ≡ false → number_at_value part t at ≡ Ok (record { value = value_of t at (run_of t at); next = at + run_of t at })
   unfolding number_at_value
   number-good h e = rw (lt-leb (length t) at h, e)

@@ -6,6 +6,7 @@ ghost use Rattle.numbers.specs.Numerals.{number_at_value, place_after};
 
 use crate::reading::{after_number, first_at};
 use crate::{Number, Reader};
+use slices::Refusal;
 
 // At a place of a text.
 pub fn reader<'a>(text: &'a [u8], at: usize) -> Reader<'a>
@@ -15,7 +16,7 @@ pub fn reader<'a>(text: &'a [u8], at: usize) -> Reader<'a>
 }
 
 // The number at the reader's place.
-pub fn next<'a>(r: Reader<'a>) -> Number
+pub fn next<'a>(r: Reader<'a>) -> Result<Number, Refusal>
     ensures { result ≡ number_at_value First r.entry.text.now r.entry.at }
 {
     first_at(r.text, r.at)
@@ -31,7 +32,7 @@ pub fn past<'a>(r: Reader<'a>) -> Reader<'a>
 }
 
 // The number at a place of a text.
-pub fn read_number(text: &[u8], at: usize) -> Number
+pub fn read_number(text: &[u8], at: usize) -> Result<Number, Refusal>
     ensures { result ≡ number_at_value First text.now at }
 {
     next(reader(text, at))

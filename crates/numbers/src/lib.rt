@@ -10,15 +10,15 @@ pub use reading::number_at;
 use slices::Refusal;
 pub use writing::{put, put_field, put_small, small_width, width};
 
-// The number at a place, with the place after it; or the refusal.
-#[derive(Clone, Copy)]
-pub enum Number {
-    Good(usize, usize),
-    Refused(Refusal),
+// A number that stands at a place, and the place after it.
+#[derive(Clone, Copy, Debug, PartialEq, Eq)]
+pub struct Number {
+    pub value: usize,
+    pub next: usize,
 }
 
 // A lent text, and the place that reading has reached.
-#[derive(Clone, Copy)]
+#[derive(Clone, Copy, Debug, PartialEq, Eq)]
 pub struct Reader<'a> {
     pub text: &'a [u8],
     pub at: usize,

@@ -4,7 +4,7 @@ ghost use Rattle.slices.specs.declared.Part.TheVariants.{First};
 ghost use Rattle.numbers.specs.Numerals.{run_of, value_of, malformed, number_at_value, place_after};
 
 use crate::Number;
-use slices::{Part, refuse, wide};
+use slices::{Part, Reason, Refusal, refuse};
 
 // How many digits stand from a place on.
 fn run(text: &[u8], at: usize) -> usize
@@ -21,7 +21,7 @@ fn digit_at(text: &[u8], at: usize) -> usize
     requires { (at < length text.now) × (48 ≤ get_or text.now at 0) × (get_or text.now at 0 < 58) }
     ensures { (result ≡ get_or text.now at 0 - 48) × (result < 10) }
 {
-    wide(text[at]) - 48
+    usize::from(text[at]) - 48
 }
 
 // The value of a run of one to three digits.
@@ -58,23 +58,26 @@ fn is_malformed(run: usize, first: u8) -> bool
 }
 
 // The number that begins at a place; a refusal says the part that the text is.
-pub fn number_at(text: &[u8], at: usize, part: Part) -> Number
+pub fn number_at(text: &[u8], at: usize, part: Part) -> Result<Number, Refusal>
     ensures { result ≡ number_at_value part text.now at }
 {
     let len = text.len();
     if len <= at {
-        return Number::Refused(refuse(11, part, len));
+        return Err(refuse(Reason::OffLayout, part, len));
     }
     let r = run(text, at);
     let next = at + r;
     if is_malformed(r, text[at]) {
-        return Number::Refused(refuse(11, part, at));
+        return Err(refuse(Reason::OffLayout, part, at));
     }
-    Number::Good(value(text, at, r), next)
+    Ok(Number {
+        value: value(text, at, r),
+        next,
+    })
 }
 
 // The number at a place of a text that stands alone.
-pub fn first_at(text: &[u8], at: usize) -> Number
+pub fn first_at(text: &[u8], at: usize) -> Result<Number, Refusal>
     ensures { result ≡ number_at_value First text.now at }
 {
     number_at(text, at, Part::First)
@@ -86,7 +89,7 @@ pub fn after_number(text: &[u8], at: usize) -> usize
 {
     let found = first_at(text, at);
     match found {
-        Number::Good(_, next) => next,
-        Number::Refused(_) => at,
+        Ok(Number { value: _, next }) => next,
+        Err(_) => at,
     }
 }

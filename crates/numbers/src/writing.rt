@@ -4,8 +4,6 @@ ghost use Rattle.std.specs.Prelude.{◌≡◌, cond, ◌∷◌, [], ◌+◌, ◌
 ghost use Rattle.numbers.specs.Digits.{digits_of, field};
 ghost use Rattle.numbers.specs.Storing.{Stored};
 
-use slices::narrow;
-
 // One byte, where there is room for it; and the place after it.
 pub fn put(out: &mut [u8], at: usize, c: u8) -> usize
     requires { at + 1 ≤ 18446744073709551615 }
@@ -21,7 +19,7 @@ fn digit(d: usize) -> u8
     requires { d < 10 }
     ensures { result ≡ 48 + d }
 {
-    narrow(48 + d)
+    (48 + d) as u8
 }
 
 // How many digits a number has.
@@ -43,10 +41,8 @@ fn put_digits(n: usize, out: &mut [u8], at: usize) -> usize
     ensures { Stored out.old at (digits_of n) out.new result }
 {
     let w = width(n);
-    let mut i = w;
     let mut rest = n;
-    while 1 < i {
-        i -= 1;
+    for i in (1..w).rev() {
         put(out, at + i, digit(rest % 10));
         rest /= 10;
     }
@@ -76,7 +72,7 @@ pub fn put_field(n: usize, end: u8, out: &mut [u8], at: usize) -> usize
 fn at_least(bound: usize, n: usize) -> usize
     ensures { result ≡ cond (leb bound n) 1 0 }
 {
-    if bound <= n { 1 } else { 0 }
+    usize::from(bound <= n)
 }
 
 // How many digits a number below 1,000 has, without a jump in the machine code.

@@ -4,3 +4,4 @@ pub mod Soundness
 pub mod Reading
 pub mod Packing
 pub mod Example
+pub mod Front

@@ -1,4 +1,6 @@
 -- A sheet is refused for nothing exactly if it is valid. Assumes nothing.
+use Rattle.slices.specs.declared.Reason.TheVariants.{SheetLength, LetterCount, StateCount, ProgressSize, NextState}
+use Rattle.slices.specs.declared.Reason.TheVariants.{MarkByte, LettersDiffer}
 use mathlib.Core.Path.{◌≡◌, refl, subst, ◌∙◌}
 use mathlib.Core.Bool.{not}
 use mathlib.Core.List.{List}
@@ -31,10 +33,10 @@ progress-good part b zero q e r h l = absurd (omega arith)
 progress-good part b (suc c) q e r h l = by (ℕ_discrete q r) (progress-good part b c (suc q) after)
   where
     s5 : Fault
-    s5 = scan 5 part 0 (size_of b q) b (progress_at_value b q) (size_of b q * letter_count b)
+    s5 = scan NextState part 0 (size_of b q) b (progress_at_value b q) (size_of b q * letter_count b)
 
     s6 : Fault
-    s6 = scan 6 part 0 2 b (marks_at b q) (size_of b q)
+    s6 = scan MarkByte part 0 2 b (marks_at b q) (size_of b q)
 
     rest : Fault
     rest = progress_fault part b (suc q) c
@@ -48,8 +50,8 @@ progress-good part b (suc c) q e r h l = by (ℕ_discrete q r) (progress-good pa
 
     here : Good b q
     here = record {
-      next = λ k l. (scan-sound 5 part 0 (size_of b q) b (progress_at_value b q) _ (then-left s5 (s6 then rest) e) k l).1;
-      marks = λ p l. (scan-sound 6 part 0 2 b (marks_at b q) (size_of b q) (then-left s6 rest later) p l).1;
+      next = λ k l. (scan-sound NextState part 0 (size_of b q) b (progress_at_value b q) _ (then-left s5 (s6 then rest) e) k l).1;
+      marks = λ p l. (scan-sound MarkByte part 0 2 b (marks_at b q) (size_of b q) (then-left s6 rest later) p l).1;
     }
 
     by : Dec (q ≡ r) → ((r : ℕ) → suc q ≤ r → r < suc q + c → Good b r) → Good b r
@@ -60,8 +62,8 @@ good-progress : (part : Part) (b : List ℕ) (c q : ℕ) → ((r : ℕ) → q �
 unfolding progress_fault
 good-progress part b zero q good = refl
 good-progress part b (suc c) q good =
-    passed _ (sound-scan 5 part 0 (size_of b q) b (progress_at_value b q) _ (λ k l. (omega arith, g.next k l)))
-    ∙ (passed _ (sound-scan 6 part 0 2 b (marks_at b q) (size_of b q) (λ k l. (omega arith, g.marks k l)))
+    passed _ (sound-scan NextState part 0 (size_of b q) b (progress_at_value b q) _ (λ k l. (omega arith, g.next k l)))
+    ∙ (passed _ (sound-scan MarkByte part 0 2 b (marks_at b q) (size_of b q) (λ k l. (omega arith, g.marks k l)))
     ∙ good-progress part b c (suc q) (λ r h l. good r (omega arith) (omega arith)))
   where
     g : Good b q
@@ -72,7 +74,7 @@ module _ (part : Part) (b : List ℕ) where
   pub sound-header : header_fault part b ≡ sound → Header b
   unfolding header_fault
   sound-header e = record {
-    long = ltb-false (length b) (leading_at b) (when-sound _ 1 part _ (then-left t4 _ e4));
+    long = ltb-false (length b) (leading_at b) (when-sound _ SheetLength part _ (then-left t4 _ e4));
     some_letters = l.0;
     few_letters = omega (arith, l.1);
     some_states = n.0;
@@ -82,31 +84,31 @@ module _ (part : Part) (b : List ℕ) where
   }
     where
       t2 : Fault
-      t2 = when (outside 1 33 (letter_count b)) 2 part 0
+      t2 = when (outside 1 33 (letter_count b)) LetterCount part 0
 
       t3 : Fault
-      t3 = when (outside 1 33 (state_count b)) 3 part 1
+      t3 = when (outside 1 33 (state_count b)) StateCount part 1
 
       t4 : Fault
-      t4 = when (ltb (length b) (leading_at b)) 1 part (length b)
+      t4 = when (ltb (length b) (leading_at b)) SheetLength part (length b)
 
-      e2 : t2 then (t3 then (t4 then scan 4 part 1 33 b 2 (state_count b))) ≡ sound
-      e2 = then-right (when (ltb (length b) 2) 1 part (length b)) _ e
+      e2 : t2 then (t3 then (t4 then scan ProgressSize part 1 33 b 2 (state_count b))) ≡ sound
+      e2 = then-right (when (ltb (length b) 2) SheetLength part (length b)) _ e
 
-      e3 : t3 then (t4 then scan 4 part 1 33 b 2 (state_count b)) ≡ sound
+      e3 : t3 then (t4 then scan ProgressSize part 1 33 b 2 (state_count b)) ≡ sound
       e3 = then-right t2 _ e2
 
-      e4 : t4 then scan 4 part 1 33 b 2 (state_count b) ≡ sound
+      e4 : t4 then scan ProgressSize part 1 33 b 2 (state_count b) ≡ sound
       e4 = then-right t3 _ e3
 
       l : (1 ≤ letter_count b) × (letter_count b < 33)
-      l = inside 1 33 (letter_count b) (when-sound _ 2 part 0 (then-left t2 _ e2))
+      l = inside 1 33 (letter_count b) (when-sound _ LetterCount part 0 (then-left t2 _ e2))
 
       n : (1 ≤ state_count b) × (state_count b < 33)
-      n = inside 1 33 (state_count b) (when-sound _ 3 part 1 (then-left t3 _ e3))
+      n = inside 1 33 (state_count b) (when-sound _ StateCount part 1 (then-left t3 _ e3))
 
       k : (q : ℕ) → q < state_count b → (1 ≤ size_of b q) × (size_of b q < 33)
-      k = scan-sound 4 part 1 33 b 2 (state_count b) (then-right t4 _ e4)
+      k = scan-sound ProgressSize part 1 33 b 2 (state_count b) (then-right t4 _ e4)
 
   header-sound : Header b → header_fault part b ≡ sound
   unfolding header_fault
@@ -117,7 +119,7 @@ module _ (part : Part) (b : List ℕ) where
         not-outside 1 33 (state_count b) h.some_states (omega (arith, h.few_states)),
         le-ltb (length b) (leading_at b) h.long,
       )
-      (sound-scan 4 part 1 33 b 2 (state_count b) (λ q l. (h.some_size q l, omega (arith, h.few_size q l))))
+      (sound-scan ProgressSize part 1 33 b 2 (state_count b) (λ q l. (h.some_size q l, omega (arith, h.few_size q l))))
 
 -- and so is the whole sheet
 module _ (part : Part) (b : List ℕ) where
@@ -125,17 +127,17 @@ module _ (part : Part) (b : List ℕ) where
   unfolding sheet_fault tables_fault
   sound-valid e = record {
     header = sound-header part b (then-left (header_fault part b) (tables_fault part b) e);
-    exact = eqb-true (length b) (sheet_length b) (not-false _ (when-sound _ 1 part _ (then-left whole _ tables)));
-    leads = λ q a h i. (scan-sound 5 part 0 (state_count b) b (leading_at b) _ (then-left leading progress rest) (q * letter_count b + a) (digits_lt h i)).1;
+    exact = eqb-true (length b) (sheet_length b) (not-false _ (when-sound _ SheetLength part _ (then-left whole _ tables)));
+    leads = λ q a h i. (scan-sound NextState part 0 (state_count b) b (leading_at b) _ (then-left leading progress rest) (q * letter_count b + a) (digits_lt h i)).1;
     progresses = λ q h p a i j. (g q h).next (p * letter_count b + a) (digits_lt i j);
     marks = λ q p h i. (g q h).marks p i;
   }
     where
       whole : Fault
-      whole = when (not (eqb (length b) (sheet_length b))) 1 part (length b)
+      whole = when (not (eqb (length b) (sheet_length b))) SheetLength part (length b)
 
       leading : Fault
-      leading = scan 5 part 0 (state_count b) b (leading_at b) (state_count b * letter_count b)
+      leading = scan NextState part 0 (state_count b) b (leading_at b) (state_count b * letter_count b)
 
       progress : Fault
       progress = progress_fault part b 0 (state_count b)
@@ -155,7 +157,7 @@ module _ (part : Part) (b : List ℕ) where
       rw (
         header-sound part b v.header,
         eq-eqb (length b) (sheet_length b) v.exact,
-        sound-scan 5 part 0 (state_count b) b (leading_at b) _ (λ k l. (omega arith, entry (state_count b) (leading_at b) v.leads k l)),
+        sound-scan NextState part 0 (state_count b) b (leading_at b) _ (λ k l. (omega arith, entry (state_count b) (leading_at b) v.leads k l)),
       )
       (good-progress part b (state_count b) 0 (λ r i l. good r (omega arith)))
     where
@@ -188,7 +190,7 @@ pub pair-valid : (b c : List ℕ) → pair_fault b c ≡ sound → Valid b × Va
 pair-valid b c e = (
   sound-valid First b (then-left (sheet_fault First b) (second_fault (letter_count b) c) e),
   sound-valid Second c (then-left (sheet_fault Second c) _ later),
-  eqb-true (letter_count b) (letter_count c) (not-false _ (when-sound _ 7 Second 0 (then-right (sheet_fault Second c) _ later))),
+  eqb-true (letter_count b) (letter_count c) (not-false _ (when-sound _ LettersDiffer Second 0 (then-right (sheet_fault Second c) _ later))),
 )
   where
     later : second_fault (letter_count b) c ≡ sound

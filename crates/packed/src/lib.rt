@@ -8,29 +8,21 @@ ghost use Rattle.std.specs.Prelude.{◌≡◌, ◌+◌, ◌*◌, ◌≤◌, ◌<
 ghost use Rattle.packed.specs.Layout.{letter_count, state_count, size_of, progress_at_value, table_step, Header};
 
 pub use checking::{check, check_pair};
-use slices::{Refusal, wide};
 pub use walking::{columns, step, step_from, walk};
 
 // The counts of a sheet: s, n and the largest k(q).
-#[derive(Clone, Copy)]
+#[derive(Clone, Copy, Debug, PartialEq, Eq)]
 pub struct Sizes {
     pub letters: usize,
     pub states: usize,
     pub widest: usize,
 }
 
-// What the check of a sheet says.
-#[derive(Clone, Copy)]
-pub enum Validity {
-    Valid(Sizes),
-    Refused(Refusal),
-}
-
-// What the check of two sheets says.
-#[derive(Clone, Copy)]
-pub enum Validities {
-    Valid(Sizes, Sizes),
-    Refused(Refusal),
+// The counts of two sheets.
+#[derive(Clone, Copy, Debug, PartialEq, Eq)]
+pub struct BothSizes {
+    pub first: Sizes,
+    pub second: Sizes,
 }
 
 // How many letters the sheet has, and how many leading states.
@@ -38,14 +30,14 @@ pub fn letters(sheet: &[u8]) -> usize
     requires { 0 < length sheet.now }
     ensures { result ≡ letter_count sheet.now }
 {
-    wide(sheet[0])
+    usize::from(sheet[0])
 }
 
 pub fn states(sheet: &[u8]) -> usize
     requires { 1 < length sheet.now }
     ensures { result ≡ state_count sheet.now }
 {
-    wide(sheet[1])
+    usize::from(sheet[1])
 }
 
 // The size of the progress automaton of q.
@@ -53,7 +45,7 @@ pub fn size(sheet: &[u8], q: usize) -> usize
     requires { 2 + q < length sheet.now }
     ensures { result ≡ size_of sheet.now q }
 {
-    wide(sheet[2 + q])
+    usize::from(sheet[2 + q])
 }
 
 // Where the part of leading state q begins: its next states, then its marks.
@@ -64,10 +56,8 @@ pub fn progress_at(sheet: &[u8], q: usize) -> usize
     let s = letters(sheet);
     let n = states(sheet);
     let mut at = 2 + n + n * s;
-    let mut r = 0;
-    while r < q {
+    for r in 0..q {
         at += size(sheet, r) * (s + 1);
-        r += 1;
     }
     at
 }
@@ -77,7 +67,7 @@ pub fn next(sheet: &[u8], at: usize, letters: usize, state: usize, letter: usize
     requires { at + (state * letters + letter) < length sheet.now }
     ensures { result ≡ table_step sheet.now at letters state letter }
 {
-    wide(sheet[at + (state * letters + letter)])
+    usize::from(sheet[at + (state * letters + letter)])
 }
 
 // Whether a state is marked, by marks that begin at `at`.

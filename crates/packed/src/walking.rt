@@ -4,8 +4,6 @@ ghost use Rattle.std.specs.Prelude.{◌≡◌, ◌+◌, ◌*◌, ◌≤◌, ◌<
 ghost use Rattle.fdfa.specs.Family.{walk};
 ghost use Rattle.packed.specs.Columns.{column_step, column_cell, columns_of, Walkable};
 
-use slices::wide;
-
 // What cell i has: the next state of i % 32 by i / 32, or 0 where there is no such state.
 fn cell(sheet: &[u8], at: usize, letters: usize, states: usize, i: usize) -> u8
     requires { (at + states * letters ≤ length sheet.now) × (i < 32 * letters) }
@@ -24,10 +22,8 @@ pub fn columns(sheet: &[u8], at: usize, letters: usize, states: usize) -> [u8; 1
     ensures { result ≡ columns_of sheet.now at letters states }
 {
     let mut table = [0u8; 1024];
-    let mut i = 0;
-    while i < 32 * letters {
-        table[i] = cell(sheet, at, letters, states, i);
-        i += 1;
+    for (i, entry) in table[..32 * letters].iter_mut().enumerate() {
+        *entry = cell(sheet, at, letters, states, i);
     }
     table
 }
@@ -36,7 +32,7 @@ fn read(column: &[u8], state: usize) -> usize
     requires { state < length column.now }
     ensures { result ≡ get_or column.now state 0 }
 {
-    wide(column[state])
+    usize::from(column[state])
 }
 
 // The next state by a column that begins at `from`: the address of the load waits for the state alone.
@@ -61,10 +57,8 @@ pub fn walk(table: &[u8], state: usize, word: &[u8]) -> usize
     ensures { result ≡ walk (column_step table.now) state word.now }
 {
     let mut q = state;
-    let mut i = 0;
-    while i < word.len() {
-        q = step(table, q, wide(word[i]));
-        i += 1;
+    for &a in word {
+        q = step(table, q, usize::from(a));
     }
     q
 }

@@ -1,7 +1,6 @@
 -- Two packed sheets side by side: where the tables of two automata begin, the next pair of states, and the sizes of
 -- both. Assumes nothing.
 use Rattle.std.specs.Prelude.{◌≡◌, List, ℕ, ◌+◌, ◌*◌, ◌/◌, ◌%◌, ◌≤◌, ◌<◌, length}
-use Rattle.slices.specs.Refusals.{Result, given, refused}
 use Rattle.fdfa.specs.Family.{Closed}
 use Rattle.fdfa.specs.Boolean.{beside}
 use Rattle.fdfa.specs.Inclusion.{widest}
@@ -9,8 +8,6 @@ use Rattle.packed.specs.Layout.{letter_count, state_count, size_of, leading_at, 
 use Rattle.packed.specs.Layout.{decode, Valid}
 use Rattle.pairing.specs.declared.Beside.{Beside}
 use Rattle.pairing.specs.declared.PairSizes.{PairSizes}
-use Rattle.pairing.specs.declared.Sized.{Sized}
-use Rattle.pairing.specs.declared.Sized.TheVariants.{Paired, Refused}
 
 -- Two valid sheets with the same letters.
 pub record Alike (b c : List ℕ) : Type 0 where
@@ -27,11 +24,6 @@ sizes_of b c = record {
   pairs = state_count b * state_count c;
   widest = widest (decode b) * widest (decode c);
 }
-
--- The answer of the check, by cases.
-abbrev pub says : Sized → Result PairSizes
-says (Paired z) = given z
-says (Refused r) = refused r
 
 -- The leading automata, and the progress automata of the leading states p and q by their tables and by their marks.
 abbrev pub leads_of : List ℕ → List ℕ → Beside

@@ -9,15 +9,14 @@ ghost use Rattle.std.specs.Prelude.{◌≡◌, ◌<◌};
 ghost use Rattle.slices.specs.Refusals.{unless};
 ghost use Rattle.packed.specs.Layout.{state_count};
 ghost use Rattle.packed.specs.Faults.{pair_fault};
-ghost use Rattle.pairing.specs.Pairs.{next_pair_of, leads_of, progress_of, marks_of, Reads, Alike, sizes_of, says};
+ghost use Rattle.pairing.specs.Pairs.{next_pair_of, leads_of, progress_of, marks_of, Reads, Alike, sizes_of};
 
-use packed::Validities;
 use slices::Refusal;
 pub use tabulating::tabulate;
 
 // Two automata side by side: where the tables, or the marks, of each begin in its sheet, the number of letters, and the
 // size of the second.
-#[derive(Clone, Copy)]
+#[derive(Clone, Copy, Debug, PartialEq, Eq)]
 pub struct Beside {
     pub first: usize,
     pub second: usize,
@@ -27,7 +26,7 @@ pub struct Beside {
 
 // The sizes of two sheets with the same letters: the leading states of each, the pairs of those (N), and the largest
 // number of pairs of progress states (K).
-#[derive(Clone, Copy)]
+#[derive(Clone, Copy, Debug, PartialEq, Eq)]
 pub struct PairSizes {
     pub letters: usize,
     pub first: usize,
@@ -36,29 +35,18 @@ pub struct PairSizes {
     pub widest: usize,
 }
 
-// What the check of two sheets says.
-#[derive(Clone, Copy)]
-pub enum Sized {
-    Paired(PairSizes),
-    Refused(Refusal),
-}
-
 // The first sheet, then the second, then that both have the same letters.
-pub fn check(first: &[u8], second: &[u8]) -> Sized
-    ensures { says result
-        ≡ unless (pair_fault first.now second.now) (sizes_of first.now second.now) }
+pub fn check(first: &[u8], second: &[u8]) -> Result<PairSizes, Refusal>
+    ensures { result ≡ unless (pair_fault first.now second.now) (sizes_of first.now second.now) }
 {
-    let pair = packed::check_pair(first, second);
-    match pair {
-        Validities::Refused(r) => Sized::Refused(r),
-        Validities::Valid(y, z) => Sized::Paired(PairSizes {
-            letters: y.letters,
-            first: y.states,
-            second: z.states,
-            pairs: y.states * z.states,
-            widest: y.widest * z.widest,
-        }),
-    }
+    let sizes = packed::check_pair(first, second)?;
+    Ok(PairSizes {
+        letters: sizes.first.letters,
+        first: sizes.first.states,
+        second: sizes.second.states,
+        pairs: sizes.first.states * sizes.second.states,
+        widest: sizes.first.widest * sizes.second.widest,
+    })
 }
 
 // The tables of the leading automata.

@@ -5,7 +5,6 @@ ghost use Rattle.slices.specs.Tables.{tab, table};
 ghost use Rattle.pairing.specs.Pairs.{next_pair_of, Reads, Steps};
 
 use crate::{Beside, next_pair};
-use slices::narrow16;
 
 // Writes the row of the pair x.
 fn write_row(first: &[u8], second: &[u8], t: Beside, x: usize, out: &mut [u16])
@@ -13,11 +12,8 @@ fn write_row(first: &[u8], second: &[u8], t: Beside, x: usize, out: &mut [u16])
     ensures { out.new
         ≡ written (tab t.letters (next_pair_of first.now second.now t x)) out.old }
 {
-    let s = t.letters;
-    let mut a = 0;
-    while a < s {
-        out[a] = narrow16(next_pair(first, second, t, x, a));
-        a += 1;
+    for (a, next) in out[..t.letters].iter_mut().enumerate() {
+        *next = next_pair(first, second, t, x, a) as u16;
     }
 }
 
@@ -28,10 +24,8 @@ pub fn tabulate(first: &[u8], second: &[u8], t: Beside, count: usize, out: &mut 
         ≡ written (table count t.letters (next_pair_of first.now second.now t)) out.old }
 {
     let mut at = 0;
-    let mut x = 0;
-    while x < count {
+    for x in 0..count {
         write_row(first, second, t, x, &mut out[at..]);
         at += t.letters;
-        x += 1;
     }
 }

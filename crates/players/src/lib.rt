@@ -7,9 +7,10 @@ ghost use Rattle.membership.specs.Verdict.{verdict_of, says_of};
 ghost use Rattle.answers.specs.Layout.{numbers_of, padded, Told};
 ghost use Rattle.players.specs.Calls.{verdict_numbers_of, ComparisonTold};
 
-use answers::{SHORT, part_number, tell};
+use answers::{SHORT, refusal_numbers, tell};
 use c_search::fdfa_compare_in;
 use membership::Judgement;
+use slices::Refusal;
 
 // The bytes of the verdict's answer.
 const VERDICT: usize = 48;
@@ -17,28 +18,19 @@ const VERDICT: usize = 48;
 // The cells of work that the comparison brings.
 const CELLS: usize = 8192;
 
-fn verdict_numbers(judgement: Judgement) -> [u64; 6]
+fn verdict_numbers(judgement: Result<Judgement, Refusal>) -> [u64; 6]
     ensures { result ≡ padded 6 (numbers_of verdict_numbers_of (says_of judgement)) }
 {
     match judgement {
-        Judgement::Given {
-            accepted,
-            i,
-            j,
-            state,
-            end,
-        } => [
+        Ok(v) => [
             0,
-            accepted as u64,
-            i as u64,
-            j as u64,
-            state as u64,
-            end as u64,
+            v.accepted as u64,
+            v.i as u64,
+            v.j as u64,
+            v.state as u64,
+            v.end as u64,
         ],
-        Judgement::Refused(r) => {
-            let part = r.part;
-            [r.number as u64, part_number(part), r.place as u64, 0, 0, 0]
-        }
+        Err(r) => refusal_numbers(r),
     }
 }
 

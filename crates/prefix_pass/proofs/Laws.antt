@@ -1,5 +1,7 @@
 -- The call for a pass: however a prefix is cut, taken up from what it holds it comes to the same; it gives the leading state after the
 -- prefix exactly when every letter is known, else the position of the first unknown one. Assumes nothing.
+use Rattle.std.specs.Prelude.{Result, Ok}
+use Rattle.slices.specs.declared.Refusal.{Refusal}
 use mathlib.Core.Path.{◌≡◌, refl, ap, sym, ◌∙◌}
 use mathlib.Core.List.{List, [], ◌∷◌, ◌++◌, append-nil, append_assoc}
 use Prim.Native.Nat.{ℕ, ◌+◌, ◌≤◌}
@@ -7,7 +9,7 @@ use native.Mathlib.Omega.{arith}
 use lib.ListN.{length}
 use Rattle.slices.specs.declared.Part.TheVariants.{First}
 use Rattle.slices.specs.Capped.{capped}
-use Rattle.slices.specs.Refusals.{Fault, sound, fault, Result, given, unless}
+use Rattle.slices.specs.Refusals.{Fault, sound, fault, unless}
 use Rattle.slices.proofs.Capped.{capped_is}
 use Rattle.slices.proofs.Refusals.{gives, given-was, was-given}
 use Rattle.fdfa.specs.Words.{Over}
@@ -65,11 +67,11 @@ module _ (s : ℕ) (f : ℕ → ℕ → ℕ) (u : List ℕ) where
 
 module _ (b : List ℕ) where
   -- of a call that is not refused the sheet is valid
-  valid : (p : Pass) (w : List ℕ) {h : Pass} → passed_of b p w ≡ given h → Valid b
+  valid : (p : Pass) (w : List ℕ) {h : Pass} → passed_of b p w ≡ Ok h → Valid b
   valid p w e = sound-valid First b (was-given _ _ (sym e)).0
 
   -- going on over w after u is going over u and w, from any held value
-  pub cut : (p : Pass) (u w : List ℕ) {h : Pass} → passed_of b p u ≡ given h → passed_of b h w ≡ passed_of b p (u ++ w)
+  pub cut : (p : Pass) (u w : List ℕ) {h : Pass} → passed_of b p u ≡ Ok h → passed_of b h w ≡ passed_of b p (u ++ w)
   cut p u w {h} e = ap (unless (sheet_fault First b)) (on ∙ (told-on s f x w ∙ ap told (sym (pass-append s f (held_in_value n p) u w))))
     where
       s : ℕ
@@ -97,42 +99,42 @@ module _ (b : List ℕ) where
   next p u w = by (sheet_fault First b) refl
     where
       by : (x : Fault) → sheet_fault First b ≡ x → passed_next b (passed_of b p u) w ≡ passed_of b p (u ++ w)
-      by sound e = let g = sym (gives _ e) in ap (λ (y : Result Pass). passed_next b y w) g ∙ cut p u w g
+      by sound e = let g = sym (gives _ e) in ap (λ (y : Result Pass Refusal). passed_next b y w) g ∙ cut p u w g
       by (fault r) e = rw e
 
   -- so every way of cutting the prefix comes to the same
   pub cuts : (p : Pass) (w : List ℕ) (ws : List (List ℕ)) → passed_parts b (passed_of b p w) ws ≡ passed_of b p (w ++ joined ws)
   cuts p w [] = ap (passed_of b p) (sym (append-nil w))
   cuts p w (x ∷ ws) =
-      ap (λ (y : Result Pass). passed_parts b y ws) (next p w x)
+      ap (λ (y : Result Pass Refusal). passed_parts b y ws) (next p w x)
       ∙ (cuts p (w ++ x) ws ∙ ap (passed_of b p) (append_assoc w x (joined ws)))
 
   -- a pass that has failed stays so
-  pub stays-failed : Valid b → (i : ℕ) → i ≤ 18446744073709551615 → (w : List ℕ) → passed_of b (unknown i) w ≡ given (unknown i)
+  pub stays-failed : Valid b → (i : ℕ) → i ≤ 18446744073709551615 → (w : List ℕ) → passed_of b (unknown i) w ≡ Ok (unknown i)
   stays-failed v i h w =
       sym (gives _ (valid-sound First b v))
-      ∙ ap given (ap told (pass-failed (letter_count b) (decode b).step i w) ∙ ap unknown (capped_is i h))
+      ∙ ap Ok (ap told (pass-failed (letter_count b) (decode b).step i w) ∙ ap unknown (capped_is i h))
 
   -- the call over a whole prefix, from the start
   module _ (u : List ℕ) where
-    from_start : Valid b → passed_of b start u ≡ given (told (pass_over (letter_count b) (decode b).step start u))
+    from_start : Valid b → passed_of b start u ≡ Ok (told (pass_over (letter_count b) (decode b).step start u))
     from_start v =
         sym (gives _ (valid-sound First b v))
-        ∙ ap (λ (p : Pass). given (told (pass_over (letter_count b) (decode b).step p u))) (held-within (state_count b) start v.header.some_states)
+        ∙ ap (λ (p : Pass). Ok (told (pass_over (letter_count b) (decode b).step p u))) (held-within (state_count b) start v.header.some_states)
 
-    pub prefix-reached : Valid b → Over (letter_count b) u → passed_of b start u ≡ given (reached (walk (decode b).step 0 u) (capped (length u)))
-    prefix-reached v o = from_start v ∙ ap given (known-reached (letter_count b) (decode b).step u o)
+    pub prefix-reached : Valid b → Over (letter_count b) u → passed_of b start u ≡ Ok (reached (walk (decode b).step 0 u) (capped (length u)))
+    prefix-reached v o = from_start v ∙ ap Ok (known-reached (letter_count b) (decode b).step u o)
 
-    pub reached-prefix : {q i : ℕ} → passed_of b start u ≡ given (reached q i) → Valid b × Over (letter_count b) u × (q ≡ walk (decode b).step 0 u) × (i ≡ capped (length u))
+    pub reached-prefix : {q i : ℕ} → passed_of b start u ≡ Ok (reached q i) → Valid b × Over (letter_count b) u × (q ≡ walk (decode b).step 0 u) × (i ≡ capped (length u))
     reached-prefix e =
         let v = valid start u e in
         let k = reached-known (letter_count b) (decode b).step u (given-was (sym (from_start v) ∙ e)) in
         (v, k.0, k.1, k.2)
 
-    pub prefix-unknown : Valid b → (k : ℕ) → FirstUnknown (letter_count b) u k → passed_of b start u ≡ given (unknown (capped k))
-    prefix-unknown v k h = from_start v ∙ ap given (first-unknown (letter_count b) (decode b).step u k h)
+    pub prefix-unknown : Valid b → (k : ℕ) → FirstUnknown (letter_count b) u k → passed_of b start u ≡ Ok (unknown (capped k))
+    prefix-unknown v k h = from_start v ∙ ap Ok (first-unknown (letter_count b) (decode b).step u k h)
 
-    pub unknown-prefix : {i : ℕ} → passed_of b start u ≡ given (unknown i) → Valid b × ((k : ℕ) × FirstUnknown (letter_count b) u k × (i ≡ capped k))
+    pub unknown-prefix : {i : ℕ} → passed_of b start u ≡ Ok (unknown i) → Valid b × ((k : ℕ) × FirstUnknown (letter_count b) u k × (i ≡ capped k))
     unknown-prefix e =
         let v = valid start u e in
         (v, unknown-first (letter_count b) (decode b).step u (given-was (sym (from_start v) ∙ e)))
@@ -142,15 +144,15 @@ module _ (b : List ℕ) where
     abbrev whole : List ℕ
     whole = w ++ joined ws
 
-    pub parts-reached : Valid b → Over (letter_count b) whole → passed_parts b (passed_of b start w) ws ≡ given (reached (walk (decode b).step 0 whole) (capped (length whole)))
+    pub parts-reached : Valid b → Over (letter_count b) whole → passed_parts b (passed_of b start w) ws ≡ Ok (reached (walk (decode b).step 0 whole) (capped (length whole)))
     parts-reached v o = cuts start w ws ∙ prefix-reached whole v o
 
-    pub reached-parts : {q i : ℕ} → passed_parts b (passed_of b start w) ws ≡ given (reached q i)
+    pub reached-parts : {q i : ℕ} → passed_parts b (passed_of b start w) ws ≡ Ok (reached q i)
         → Valid b × Over (letter_count b) whole × (q ≡ walk (decode b).step 0 whole) × (i ≡ capped (length whole))
     reached-parts e = reached-prefix whole (sym (cuts start w ws) ∙ e)
 
-    pub parts-unknown : Valid b → (k : ℕ) → FirstUnknown (letter_count b) whole k → passed_parts b (passed_of b start w) ws ≡ given (unknown (capped k))
+    pub parts-unknown : Valid b → (k : ℕ) → FirstUnknown (letter_count b) whole k → passed_parts b (passed_of b start w) ws ≡ Ok (unknown (capped k))
     parts-unknown v k h = cuts start w ws ∙ prefix-unknown whole v k h
 
-    pub unknown-parts : {i : ℕ} → passed_parts b (passed_of b start w) ws ≡ given (unknown i) → Valid b × ((k : ℕ) × FirstUnknown (letter_count b) whole k × (i ≡ capped k))
+    pub unknown-parts : {i : ℕ} → passed_parts b (passed_of b start w) ws ≡ Ok (unknown i) → Valid b × ((k : ℕ) × FirstUnknown (letter_count b) whole k × (i ≡ capped k))
     unknown-parts e = unknown-prefix whole (sym (cuts start w ws) ∙ e)

@@ -10,23 +10,16 @@ ghost use Rattle.packed.specs.Columns.{column_step};
 ghost use Rattle.prefix_pass.specs.Parts.{pass_says, held_in_value, told, passed_of, passed_says};
 ghost use Rattle.prefix_pass.specs.Steps.{Stepping, Within};
 
-use packed::{Validity, columns, step};
+use packed::{columns, step};
 use pairs::pass_pairs;
-use slices::{Part, Refusal, sum, wide};
+use slices::{Part, Refusal, sum};
 
 // What the pass holds: the leading state reached and how many letters were passed, or where it failed: the position of
 // the first unknown letter, or the one that was held with a state which the sheet has not.
-#[derive(Clone, Copy)]
+#[derive(Clone, Copy, Debug, PartialEq, Eq)]
 pub enum Held {
     Reached { state: usize, at: usize },
     Unknown(usize),
-}
-
-// What a pass over a part says: what it then holds, or the refusal of the sheet.
-#[derive(Clone, Copy)]
-pub enum Passed {
-    Holds(Held),
-    Refused(Refusal),
 }
 
 // The pass before the first letter.
@@ -42,18 +35,16 @@ fn pass(table: &[u8], letters: usize, state: usize, at: usize, part: &[u8]) -> H
     ensures { pass_says result ≡ told (pass_over letters (column_step table.now) (reached state at) part.now) }
 {
     let mut q = state;
-    let mut i = 0;
-    while i < part.len() {
-        let letter = wide(part[i]);
+    for (i, &a) in part.iter().enumerate() {
+        let letter = usize::from(a);
         if letters <= letter {
             return Held::Unknown(sum(at, i));
         }
         q = step(table, q, letter);
-        i += 1;
     }
     Held::Reached {
         state: q,
-        at: sum(at, i),
+        at: sum(at, part.len()),
     }
 }
 
@@ -101,15 +92,10 @@ fn held_in(states: usize, held: Held) -> Held
 
 // The pass goes on over a further part of the prefix (01: the opening), in the leading automaton of a sheet. One that
 // is held in a state which the sheet has not has failed where it stands.
-pub fn go_on(sheet: &[u8], held: Held, part: &[u8]) -> Passed
+pub fn go_on(sheet: &[u8], held: Held, part: &[u8]) -> Result<Held, Refusal>
     ensures { passed_says result ≡ passed_of sheet.now (pass_says held) part.now }
 {
-    let validity = packed::check(sheet, Part::First);
-    match validity {
-        Validity::Refused(r) => Passed::Refused(r),
-        Validity::Valid(z) => {
-            let table = columns(sheet, 2 + z.states, z.letters, z.states);
-            Passed::Holds(pass_on(&table, z.letters, held_in(z.states, held), part))
-        }
-    }
+    let z = packed::check(sheet, Part::First)?;
+    let table = columns(sheet, 2 + z.states, z.letters, z.states);
+    Ok(pass_on(&table, z.letters, held_in(z.states, held), part))
 }

@@ -5,10 +5,9 @@ ghost use Rattle.prefix_pass.specs.Steps.{Stepping};
 ghost use Rattle.prefix_pass.specs.Doubled.{pair_cell, pairs_of, Goes};
 
 use packed::{step, step_from};
-use slices::{narrow, wide};
 
 // How far a pass went, and the state there.
-#[derive(Clone, Copy)]
+#[derive(Clone, Copy, Debug, PartialEq, Eq)]
 pub struct Reach {
     pub state: usize,
     pub passed: usize,
@@ -22,7 +21,7 @@ fn cell(table: &[u8], letters: usize, i: usize) -> u8
     let b = i / 32 % 32;
     if b < letters {
         let q = step(table, i % 32, i / 1024);
-        return narrow(step(table, q, b));
+        return step(table, q, b) as u8;
     }
     0
 }
@@ -33,10 +32,8 @@ fn pairs(table: &[u8], letters: usize) -> [u8; 32768]
     ensures { result ≡ pairs_of table.now letters }
 {
     let mut two = [0u8; 32768];
-    let mut i = 0;
-    while i < 1024 * letters {
-        two[i] = cell(table, letters, i);
-        i += 1;
+    for (i, entry) in two[..1024 * letters].iter_mut().enumerate() {
+        *entry = cell(table, letters, i);
     }
     two
 }
@@ -54,21 +51,19 @@ pub fn pass_pairs(table: &[u8], letters: usize, state: usize, part: &[u8]) -> Re
 {
     let two = pairs(table, letters);
     let mut q = state;
-    let mut i = 0;
-    while i + 1 < part.len() {
-        let a = wide(part[i]);
-        let b = wide(part[i + 1]);
+    for i in 0..part.len() / 2 {
+        let a = usize::from(part[2 * i]);
+        let b = usize::from(part[2 * i + 1]);
         if has_unknown(letters, a, b) {
             return Reach {
                 state: q,
-                passed: i,
+                passed: 2 * i,
             };
         }
         q = step_from(&two, 1024 * a + 32 * b, q);
-        i += 2;
     }
     Reach {
         state: q,
-        passed: i,
+        passed: part.len() / 2 * 2,
     }
 }

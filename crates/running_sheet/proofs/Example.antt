@@ -1,4 +1,5 @@
 -- Running sheets, byte for byte, and refusals, each at its place and in their order. Assumes nothing.
+use Rattle.slices.specs.declared.Reason.TheVariants.{EmptyLoop, UnknownLetter, SecondsRange, TooLittleRoom}
 use mathlib.Core.Path.{◌≡◌, refl, ap, ap₂, ◌∙◌}
 use mathlib.Core.List.{List, [], ◌∷◌, ◌++◌}
 use Prim.Native.Nat.{ℕ, ◌+◌, ◌/◌, ◌%◌, ◌≤◌}
@@ -55,24 +56,24 @@ large-totals =
 
 -- a letter without a cell, before an empty loop; no cells and an empty loop, or any letter; each of these before a bad cell
 pub letters :
-    (write_fault (0 ∷ 2 ∷ []) [] (5 ∷ 700 ∷ []) 0 ≡ fault_of 9 Opening 1) × (write_fault [] [] [] 0 ≡ fault_of 8 Loop 0)
-    × (write_fault [] (0 ∷ []) [] 0 ≡ fault_of 9 Loop 0) × (write_fault (1 ∷ []) [] (0 ∷ []) 0 ≡ fault_of 9 Opening 0)
-    × (write_fault [] [] (0 ∷ []) 0 ≡ fault_of 8 Loop 0) × (write_fault [] (0 ∷ 1 ∷ []) (0 ∷ []) 0 ≡ fault_of 9 Loop 1)
+    (write_fault (0 ∷ 2 ∷ []) [] (5 ∷ 700 ∷ []) 0 ≡ fault_of UnknownLetter Opening 1) × (write_fault [] [] [] 0 ≡ fault_of EmptyLoop Loop 0)
+    × (write_fault [] (0 ∷ []) [] 0 ≡ fault_of UnknownLetter Loop 0) × (write_fault (1 ∷ []) [] (0 ∷ []) 0 ≡ fault_of UnknownLetter Opening 0)
+    × (write_fault [] [] (0 ∷ []) 0 ≡ fault_of EmptyLoop Loop 0) × (write_fault [] (0 ∷ 1 ∷ []) (0 ∷ []) 0 ≡ fault_of UnknownLetter Loop 1)
 unfolding input_fault letters_fault period_fault first_outside_of least
 letters = (refl, refl, refl, refl, refl, refl)
 
 -- the first bad cell of two, of a letter that the show lacks, above the limit; the limits are good; each before the room; the room itself
 pub cells :
-    (write_fault [] (0 ∷ []) (0 ∷ 0 ∷ []) 0 ≡ fault_of 14 Seconds 0) × (write_fault [] (0 ∷ []) (5 ∷ 0 ∷ []) 0 ≡ fault_of 14 Seconds 1)
-    × (write_fault [] (0 ∷ []) (1000 ∷ []) 0 ≡ fault_of 14 Seconds 0) × (write_fault [] (0 ∷ 1 ∷ []) (1 ∷ 999 ∷ []) 0 ≡ fault_of 21 Out 59)
-    × (write_fault (0 ∷ 1 ∷ []) (1 ∷ []) (5 ∷ 700 ∷ []) 76 ≡ fault_of 21 Out 77)
+    (write_fault [] (0 ∷ []) (0 ∷ 0 ∷ []) 0 ≡ fault_of SecondsRange Seconds 0) × (write_fault [] (0 ∷ []) (5 ∷ 0 ∷ []) 0 ≡ fault_of SecondsRange Seconds 1)
+    × (write_fault [] (0 ∷ []) (1000 ∷ []) 0 ≡ fault_of SecondsRange Seconds 0) × (write_fault [] (0 ∷ 1 ∷ []) (1 ∷ 999 ∷ []) 0 ≡ fault_of TooLittleRoom Out 59)
+    × (write_fault (0 ∷ 1 ∷ []) (1 ∷ []) (5 ∷ 700 ∷ []) 76 ≡ fault_of TooLittleRoom Out 77)
     × (write_fault (0 ∷ 1 ∷ []) (1 ∷ []) (5 ∷ 700 ∷ []) 77 ≡ sound)
 unfolding input_fault letters_fault period_fault first_outside_of least part_lines show_lines total each_text running_text digits_of digits_within
 cells = (refl, refl, refl, refl, refl, refl)
 
 -- letter 255 with 255 cells and with 256; a bad cell behind 256
 pub many :
-    (write_fault [] (255 ∷ []) (tab 255 (λ i. 1)) 0 ≡ fault_of 9 Loop 0) × (write_fault [] (255 ∷ []) (tab 256 (λ i. 1)) 0 ≡ fault_of 21 Out 47)
-    × (write_fault [] (255 ∷ []) (tab 256 (λ i. 1) ++ (0 ∷ [])) 0 ≡ fault_of 14 Seconds 256)
+    (write_fault [] (255 ∷ []) (tab 255 (λ i. 1)) 0 ≡ fault_of UnknownLetter Loop 0) × (write_fault [] (255 ∷ []) (tab 256 (λ i. 1)) 0 ≡ fault_of TooLittleRoom Out 47)
+    × (write_fault [] (255 ∷ []) (tab 256 (λ i. 1) ++ (0 ∷ [])) 0 ≡ fault_of SecondsRange Seconds 256)
 unfolding tab input_fault letters_fault period_fault first_outside_of least part_lines show_lines total each_text running_text digits_of digits_within
 many = (refl, refl, refl)

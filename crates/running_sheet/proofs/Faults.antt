@@ -1,4 +1,5 @@
 -- Which refusal is met, from what the code knows where it meets it; and what holds where none is. Assumes nothing.
+use Rattle.slices.specs.declared.Reason.TheVariants.{TooLittleRoom, PartTooLong}
 use mathlib.Core.Path.{◌≡◌, sym, ◌∙◌}
 use mathlib.Core.List.{List}
 use Prim.Native.Nat.{ℕ, ◌≤◌, ◌<◌}
@@ -22,27 +23,27 @@ use Rattle.running_sheet.specs.Steps.{Measurable}
 -- all cells are judged, so there are not too few
 pub all-cells : (w : List ℕ) → seconds_fault (length w) w ≡ cell_fault w
 unfolding seconds_fault
-all-cells w = passed _ (when-passes 21 Seconds (length w) (le-ltb (length w) (length w) (omega arith)))
+all-cells w = passed _ (when-passes TooLittleRoom Seconds (length w) (le-ltb (length w) (length w) (omega arith)))
 
 module _ (u v : List ℕ) where
   abbrev pub lengths : Fault
   lengths = long_fault Opening u then long_fault Loop v
 
-  pub long-opening : 65536 < length u → lengths ≡ fault_of 26 Opening 65536
-  long-opening h = failed _ (when-fails 26 Opening 65536 (lt-ltb 65536 (length u) h))
+  pub long-opening : 65536 < length u → lengths ≡ fault_of PartTooLong Opening 65536
+  long-opening h = failed _ (when-fails PartTooLong Opening 65536 (lt-ltb 65536 (length u) h))
 
   module _ (few : length u ≤ 65536) where
     past-opening : lengths ≡ long_fault Loop v
-    past-opening = passed _ (when-passes 26 Opening 65536 (le-ltb 65536 (length u) few))
+    past-opening = passed _ (when-passes PartTooLong Opening 65536 (le-ltb 65536 (length u) few))
 
-    pub long-loop : 65536 < length v → lengths ≡ fault_of 26 Loop 65536
-    long-loop h = past-opening ∙ when-fails 26 Loop 65536 (lt-ltb 65536 (length v) h)
+    pub long-loop : 65536 < length v → lengths ≡ fault_of PartTooLong Loop 65536
+    long-loop h = past-opening ∙ when-fails PartTooLong Loop 65536 (lt-ltb 65536 (length v) h)
 
     pub not-long : length v ≤ 65536 → lengths ≡ sound
-    not-long h = past-opening ∙ when-passes 26 Loop 65536 (le-ltb 65536 (length v) h)
+    not-long h = past-opening ∙ when-passes PartTooLong Loop 65536 (le-ltb 65536 (length v) h)
 
 few : (part : Part) (x : List ℕ) → long_fault part x ≡ sound → length x ≤ 65536
-few part x e = ltb-false 65536 (length x) (when-sound (ltb 65536 (length x)) 26 part 65536 e)
+few part x e = ltb-false 65536 (length x) (when-sound (ltb 65536 (length x)) PartTooLong part 65536 e)
 
 -- nothing is refused exactly where the show has a running sheet
 module _ (u v w : List ℕ) where

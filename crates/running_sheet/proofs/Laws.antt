@@ -1,4 +1,5 @@
 -- The order of refusals, of the call itself: letters, cells, lengths, room. Assumes nothing.
+use Rattle.slices.specs.declared.Reason.TheVariants.{PartTooLong}
 use mathlib.Core.Path.{◌≡◌, ◌∙◌}
 use mathlib.Core.List.{List}
 use Prim.Native.Nat.{ℕ, ◌≤◌, ◌<◌}
@@ -30,10 +31,10 @@ module _ (u v w : List ℕ) (room : ℕ) where
       lengths-third e = failed _ (passed _ known ∙ (passed _ good ∙ e))
 
       -- for rooms of every kind
-      pub opening-third : 65536 < length u → write_fault u v w room ≡ fault_of 26 Opening 65536
+      pub opening-third : 65536 < length u → write_fault u v w room ≡ fault_of PartTooLong Opening 65536
       opening-third h = lengths-third (long-opening u v h)
 
-      pub loop-fourth : length u ≤ 65536 → 65536 < length v → write_fault u v w room ≡ fault_of 26 Loop 65536
+      pub loop-fourth : length u ≤ 65536 → 65536 < length v → write_fault u v w room ≡ fault_of PartTooLong Loop 65536
       loop-fourth few h = lengths-third (long-loop u v few h)
 
   pub room-last : Printable u v w → write_fault u v w room ≡ short Out room (length (running_sheet_of u v w))

@@ -1,4 +1,5 @@
 -- What writing a running sheet is refused for. Assumes nothing.
+use Rattle.slices.specs.declared.Reason.TheVariants.{SecondsRange, PartTooLong}
 use Rattle.std.specs.Prelude.{List, ℕ, ◌≤◌, ltb, length}
 use Rattle.slices.specs.declared.Part.{Part}
 use Rattle.slices.specs.declared.Part.TheVariants.{Opening, Loop, Out, Seconds}
@@ -9,15 +10,16 @@ use Rattle.slices.specs.Seconds.{TimesFit}
 use Rattle.fdfa.specs.Family.{Lasso}
 use Rattle.running_sheet.specs.Text.{running_sheet_of}
 
--- 26: a part of more than 65,536 letters.
+-- A part of more than 65,536 letters is too long.
 abbrev pub long_fault : Part → List ℕ → Fault
-long_fault part x = when (ltb 65536 (length x)) 26 part 65536
+long_fault part x = when (ltb 65536 (length x)) PartTooLong part 65536
 
--- 14: the first cell that is not from 1 to 999; cells of letters that the show lacks are judged too.
+-- The seconds' range: the first cell that is not from 1 to 999; cells of letters that the show lacks are judged too.
 abbrev pub cell_fault : List ℕ → Fault
-cell_fault w = scan 14 Seconds 1 1000 w 0 (length w)
+cell_fault w = scan SecondsRange Seconds 1 1000 w 0 (length w)
 
--- A letter is known where it has a cell: 9, 8, 9; then all cells; then the lengths.
+-- The letters of the opening, whether the loop is empty, the letters of the loop, where a letter is known if it has a
+-- cell; then all cells; then the lengths.
 unfoldable pub input_fault : List ℕ → List ℕ → List ℕ → Fault
 input_fault u v w = letters_fault (length w) u v then cell_fault w then long_fault Opening u then long_fault Loop v
 

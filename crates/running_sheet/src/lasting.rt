@@ -4,7 +4,6 @@ ghost use Rattle.running_sheet.specs.Places.{timed_lines, lasting};
 ghost use Rattle.running_sheet.specs.Steps.{Measurable};
 
 use numbers::small_width;
-use slices::{wide, wide16};
 
 // The seconds of a part, summed.
 pub fn sum_seconds(word: &[u8], seconds: &[u16]) -> usize
@@ -12,10 +11,9 @@ pub fn sum_seconds(word: &[u8], seconds: &[u16]) -> usize
     ensures { (result ≡ lasting word.now seconds.now) × (result ≤ 65470464) }
 {
     let mut total = 0;
-    let mut i = 0;
-    while i < word.len() {
-        total += wide16(seconds[wide(word[i])]);
-        i += 1;
+    for &letter in word {
+        let lasts = usize::from(seconds[usize::from(letter)]);
+        total += lasts;
     }
     total
 }
@@ -27,11 +25,9 @@ pub fn measure(start: &[u8], word: &[u8], seconds: &[u16]) -> usize
         (result ≤ 1048576) }
 {
     let mut long = 0;
-    let mut i = 0;
-    while i < word.len() {
-        let letter = wide(word[i]);
-        long += start.len() + small_width(letter) + small_width(wide16(seconds[letter])) + 2;
-        i += 1;
+    for &c in word {
+        let letter = usize::from(c);
+        long += start.len() + small_width(letter) + small_width(usize::from(seconds[letter])) + 2;
     }
     long
 }

@@ -13,7 +13,7 @@ use crate::judging::check_show;
 use crate::lasting::{measure, sum_seconds};
 use format::put_literal;
 use numbers::{put_field, put_small, width};
-use slices::{Letters, Part, Written, refuse, wide, wide16};
+use slices::{Part, Reason, Refusal, refuse};
 
 // Both lines of names, and the bytes that end the totals.
 const NAMES: usize = 34;
@@ -23,12 +23,9 @@ fn put_start(start: &[u8], out: &mut [u8], at: usize) -> usize
     requires { at + length start.now ≤ length out.old }
     ensures { Stored out.old at start.now out.new result }
 {
-    let mut i = 0;
-    while i < start.len() {
-        out[at + i] = start[i];
-        i += 1;
-    }
-    at + i
+    let end = at + start.len();
+    out[at..end].copy_from_slice(start);
+    end
 }
 
 // The line of a letter.
@@ -51,11 +48,9 @@ fn put_lines(start: &[u8], word: &[u8], seconds: &[u16], out: &mut [u8], at: usi
         (timed_lines start.now word.now seconds.now) out.new result }
 {
     let mut p = at;
-    let mut i = 0;
-    while i < word.len() {
-        let letter = wide(word[i]);
-        p = put_line(start, letter, wide16(seconds[letter]), out, p);
-        i += 1;
+    for &c in word {
+        let letter = usize::from(c);
+        p = put_line(start, letter, usize::from(seconds[letter]), out, p);
     }
     p
 }
@@ -83,7 +78,7 @@ fn put_totals(opening: usize, turn: usize, out: &mut [u8], at: usize) -> usize
 }
 
 // The running sheet of a show that was judged: measured, then written.
-fn fill(prefix: &[u8], period: &[u8], seconds: &[u16], out: &mut [u8]) -> Written
+fn fill(prefix: &[u8], period: &[u8], seconds: &[u16], out: &mut [u8]) -> Result<usize, Refusal>
     requires { Measurable prefix.now seconds.now × Measurable period.now seconds.now }
     ensures { Fills
         (short Out (length out.old)
@@ -96,23 +91,25 @@ fn fill(prefix: &[u8], period: &[u8], seconds: &[u16], out: &mut [u8]) -> Writte
     let lines = measure(b"opening ", prefix, seconds) + measure(b"loop ", period, seconds);
     let need = lines + width(opening) + width(turn) + NAMES;
     if out.len() < need {
-        return Written::Refused(refuse(21, Part::Out, need));
+        return Err(refuse(Reason::TooLittleRoom, Part::Out, need));
     }
     let at = put_show(prefix, period, seconds, out);
     put_totals(opening, turn, out, at);
-    Written::Filled(need)
+    Ok(need)
 }
 
 // Writes the running sheet of a show into the out slice, from its start.
-pub fn write(prefix: &[u8], period: &[u8], seconds: &[u16], out: &mut [u8]) -> Written
+pub fn write(
+    prefix: &[u8],
+    period: &[u8],
+    seconds: &[u16],
+    out: &mut [u8],
+) -> Result<usize, Refusal>
     ensures { Fills
         (write_fault prefix.now period.now seconds.now (length out.old))
         (running_sheet_of prefix.now period.now seconds.now)
         out.old out.new result }
 {
-    let letters = check_show(prefix, period, seconds);
-    match letters {
-        Letters::Refused(r) => Written::Refused(r),
-        Letters::Known => fill(prefix, period, seconds, out),
-    }
+    check_show(prefix, period, seconds)?;
+    fill(prefix, period, seconds, out)
 }

@@ -11,11 +11,10 @@ pub use looking::one_file;
 pub use saving::{save, save_both};
 use std::fs::File;
 
-// What is ready to be written: nothing; a device or a pipe, to be opened; a file that is open, and the length that it
-// had; or a file beside the one to be made, the length of its name, and whether the one to be made is new.
+// What is ready to be written: a device or a pipe, to be opened; a file that is open, and the length that it had; or a
+// file beside the one to be made, the length of its name, and whether the one to be made is new.
 #[derive(Drop)]
 enum Staged {
-    Failed,
     Stream,
     Place(File, u64),
     Beside(usize, bool),

@@ -7,12 +7,13 @@ use std::fs::Metadata;
 use std::io::{Error, Result};
 use std::os::unix::fs::MetadataExt;
 
-// The kinds of what stands at a path: nothing, a regular file, or anything else.
-pub const NONE: u8 = 0;
-
-pub const FILE: u8 = 1;
-
-pub const OTHER: u8 = 2;
+// What stands at a path: nothing, a regular file, or anything else.
+#[derive(Clone, Copy, Debug, PartialEq, Eq)]
+pub enum Kind {
+    Nothing,
+    File,
+    Other,
+}
 
 // The bits of a mode that say who may do what.
 const RIGHTS: u32 = 0o7777;
@@ -21,7 +22,7 @@ const RIGHTS: u32 = 0o7777;
 // nothing is seen there.
 #[derive(Clone, Copy)]
 pub struct Seen {
-    pub kind: u8,
+    pub kind: Kind,
     pub mode: u32,
     pub owner: u32,
     pub group: u32,
@@ -30,8 +31,12 @@ pub struct Seen {
     pub why: Option<Error>,
 }
 
-fn kind_of(held: &Metadata) -> u8 {
-    if held.is_file() { FILE } else { OTHER }
+fn kind_of(held: &Metadata) -> Kind {
+    if held.is_file() {
+        Kind::File
+    } else {
+        Kind::Other
+    }
 }
 
 // What the system says.
@@ -50,7 +55,7 @@ fn told(held: &Metadata) -> Seen {
 // Nothing is seen.
 fn unseen(error: Error) -> Seen {
     Seen {
-        kind: NONE,
+        kind: Kind::Nothing,
         mode: 0,
         owner: 0,
         group: 0,
@@ -61,10 +66,8 @@ fn unseen(error: Error) -> Seen {
 }
 
 fn ask(rt: &HostRuntime, name: &[u8]) -> Result<Metadata> {
-    match path_of(name) {
-        Ok(path) => fs::metadata(rt, path),
-        Err(error) => Err(error),
-    }
+    let path = path_of(name)?;
+    fs::metadata(rt, path)
 }
 
 // What stands at a path, links followed.
@@ -90,14 +93,10 @@ pub fn is_link(rt: &HostRuntime, name: &[u8]) -> bool {
 pub fn folder(name: &[u8]) -> usize
     ensures { IsPrefixLen result name.now }
 {
-    let mut n = name.len();
-    while n > 0 {
-        if name[n - 1] == b'/' {
-            break;
-        }
-        n -= 1;
+    match name.iter().rposition(|b| *b == b'/') {
+        Some(i) => i + 1,
+        None => 0,
     }
-    n
 }
 
 // What the folder of a name is, the one that the program was started in where the name has none.
@@ -131,7 +130,7 @@ pub fn one_file(rt: &HostRuntime, a: &[u8], b: &[u8]) -> bool {
     if x.kind != y.kind {
         return false;
     }
-    if x.kind == NONE {
+    if x.kind == Kind::Nothing {
         return one_to_be(rt, a, b);
     }
     one(x, y)

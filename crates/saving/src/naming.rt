@@ -6,10 +6,8 @@ use std::io::Result;
 
 // Opens a file by its name.
 pub fn open(rt: &HostRuntime, how: &OpenOptions, name: &[u8]) -> Result<File> {
-    match path_of(name) {
-        Ok(path) => how.open(rt, path),
-        Err(error) => Err(error),
-    }
+    let path = path_of(name)?;
+    how.open(rt, path)
 }
 
 // To be written from the start, made where it is not there, and cut to nothing.
@@ -37,24 +35,13 @@ pub fn open_append(rt: &HostRuntime, name: &[u8]) -> Result<File> {
 }
 
 pub fn rename(rt: &HostRuntime, from: &[u8], to: &[u8]) -> Result<()> {
-    match path_of(from) {
-        Ok(path) => rename_to(rt, path, to),
-        Err(error) => Err(error),
-    }
-}
-
-fn rename_to(rt: &HostRuntime, from: &str, to: &[u8]) -> Result<()> {
-    match path_of(to) {
-        Ok(path) => fs::rename(rt, from, path),
-        Err(error) => Err(error),
-    }
+    let old = path_of(from)?;
+    let new = path_of(to)?;
+    fs::rename(rt, old, new)
 }
 
 pub fn unlink(rt: &HostRuntime, name: &[u8]) {
-    match path_of(name) {
-        Ok(path) => {
-            let _ = fs::remove_file(rt, path);
-        }
-        Err(_) => {}
+    if let Ok(path) = path_of(name) {
+        let _ = fs::remove_file(rt, path);
     }
 }

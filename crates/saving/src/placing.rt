@@ -2,8 +2,7 @@
 // until all is written. Where one of these fails, the file is as it was.
 ghost use Rattle.console.specs.Files.{IsPrefixLen};
 
-use crate::Staged;
-use crate::looking::NONE;
+use crate::looking::Kind;
 use crate::naming::{open_overwrite, open_update};
 use console::{fail, say};
 use std::fs::File;
@@ -20,11 +19,7 @@ pub fn within(n: usize, bytes: &[u8]) -> usize
 fn kept(old: u64, bytes: &[u8]) -> usize
     ensures { IsPrefixLen result bytes.now }
 {
-    if old < bytes.len() as u64 {
-        old as usize
-    } else {
-        bytes.len()
-    }
+    within(old as usize, bytes)
 }
 
 // Holds the first bytes of a file, and goes to its end.
@@ -59,8 +54,8 @@ fn say_long(rt: &HostRuntime, path: &[u8]) {
 }
 
 // Opens a file, or makes it where a link leads to nothing.
-fn open_at(rt: &HostRuntime, kind: u8, path: &[u8]) -> Result<File> {
-    if kind == NONE {
+fn open_at(rt: &HostRuntime, kind: Kind, path: &[u8]) -> Result<File> {
+    if kind == Kind::Nothing {
         open_overwrite(rt, path)
     } else {
         open_update(rt, path)
@@ -68,19 +63,19 @@ fn open_at(rt: &HostRuntime, kind: u8, path: &[u8]) -> Result<File> {
 }
 
 // Opens a file, or makes it where a link leads to nothing, and makes it ready. One that has more bytes to be written
-// over than can be held is left as it is, which is said.
+// over than can be held is left as it is, which is said. Answers the file and the length that it had.
 pub fn open_place(
     rt: &HostRuntime,
-    kind: u8,
+    kind: Kind,
     path: &[u8],
     bytes: &[u8],
     held: &mut [u8],
-) -> Staged {
+) -> Option<(File, u64)> {
     match open_at(rt, kind, path) {
         Ok(file) => stage_open(rt, file, path, bytes, held),
         Err(error) => {
             fail(rt, path, error);
-            Staged::Failed
+            None
         }
     }
 }
@@ -92,12 +87,12 @@ fn stage_open(
     path: &[u8],
     bytes: &[u8],
     held: &mut [u8],
-) -> Staged {
+) -> Option<(File, u64)> {
     match file.seek(SeekFrom::End(0)) {
         Ok(old) => stage_of_length(rt, file, old, path, bytes, held),
         Err(error) => {
             fail(rt, path, error);
-            Staged::Failed
+            None
         }
     }
 }
@@ -110,18 +105,18 @@ fn stage_of_length(
     path: &[u8],
     bytes: &[u8],
     held: &mut [u8],
-) -> Staged {
+) -> Option<(File, u64)> {
     let n = kept(old, bytes);
     if held.len() < n {
         say_long(rt, path);
-        return Staged::Failed;
+        return None;
     }
     match prepare(&file, n, bytes, held) {
-        Ok(()) => Staged::Place(file, old),
+        Ok(()) => Some((file, old)),
         Err(error) => {
             fail(rt, path, error);
             give_back(&file, old, bytes);
-            Staged::Failed
+            None
         }
     }
 }

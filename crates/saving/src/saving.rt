@@ -5,7 +5,7 @@ ghost use Rattle.std.specs.Prelude.{◌≤◌, length};
 ghost use Rattle.console.specs.Files.{IsPrefixLen};
 
 use crate::Staged;
-use crate::looking::{FILE, NONE, OTHER, Seen, folder, is_link, look, one_file};
+use crate::looking::{Kind, Seen, folder, is_link, look, one_file};
 use crate::naming::{open, open_append, open_overwrite, rename, unlink};
 use crate::placing::{finish, give_back, open_place, settle, undo, within, write_over};
 use console::fail;
@@ -56,22 +56,19 @@ fn letter(drawn: u8) -> u8 {
 fn draw(rt: &HostRuntime, name: &mut [u8]) -> Result<()> {
     let mut drawn = [0u8; DRAWN];
     rt.fill_bytes(&mut drawn)?;
-    for i in 0..DRAWN {
-        if i < name.len() {
-            let at = name.len() - 1 - i;
-            name[at] = letter(drawn[i]);
-        }
+    for (cell, &byte) in name.iter_mut().rev().zip(&drawn) {
+        *cell = letter(byte);
     }
     Ok(())
 }
 
 // Completes the name and makes the file, which no one else has made. One that takes the place of another is nobody
 // else's until it has that one's mode; a new one has the usual mode.
-fn make_beside(rt: &HostRuntime, kind: u8, name: &mut [u8]) -> Result<File> {
+fn make_beside(rt: &HostRuntime, kind: Kind, name: &mut [u8]) -> Result<File> {
     let mut how = OpenOptions::new();
     how.write(true);
     how.create_new(true);
-    how.mode(if kind == FILE { 0o600 } else { 0o666 });
+    how.mode(if kind == Kind::File { 0o600 } else { 0o666 });
     for _ in 0..TRIES {
         draw(rt, name)?;
         match open(rt, &how, name) {
@@ -90,48 +87,66 @@ fn make_beside(rt: &HostRuntime, kind: u8, name: &mut [u8]) -> Result<File> {
 // mode and, where it may be, its owner and group.
 fn fill(mut file: &File, old: Seen, bytes: &[u8]) -> Result<()> {
     file.write_all(bytes)?;
-    if old.kind == FILE {
+    if old.kind == Kind::File {
         let _ = fchown(file, Some(old.owner), Some(old.group));
         file.set_permissions(Permissions::from_mode(old.mode))?;
     }
     file.sync_all()
 }
 
+// Makes a file ready in its place.
+fn stage_place(
+    rt: &HostRuntime,
+    kind: Kind,
+    path: &[u8],
+    bytes: &[u8],
+    held: &mut [u8],
+) -> Option<Staged> {
+    let (file, old) = open_place(rt, kind, path, bytes, held)?;
+    Some(Staged::Place(file, old))
+}
+
 // Where no file can be made beside: in place of the one that is there.
 fn stage_instead(
     rt: &HostRuntime,
-    kind: u8,
+    kind: Kind,
     path: &[u8],
     bytes: &[u8],
     held: &mut [u8],
     why: Error,
-) -> Staged {
-    if kind == NONE {
+) -> Option<Staged> {
+    if kind == Kind::Nothing {
         fail(rt, path, why);
-        return Staged::Failed;
+        return None;
     }
-    open_place(rt, kind, path, bytes, held)
+    stage_place(rt, kind, path, bytes, held)
 }
 
 // Writes a file beside the one to be made.
-fn stage_beside(rt: &HostRuntime, path: &[u8], bytes: &[u8], name: &mut [u8], old: Seen) -> Staged {
+fn stage_beside(
+    rt: &HostRuntime,
+    path: &[u8],
+    bytes: &[u8],
+    name: &mut [u8],
+    old: Seen,
+) -> Option<Staged> {
     let n = name_beside(path, name);
     match make_beside(rt, old.kind, &mut name[..n]) {
         Ok(file) => {
             let whole = fill(&file, old, bytes);
             if !finish(rt, path, whole) {
                 remove(rt, n, name);
-                return Staged::Failed;
+                return None;
             }
-            Staged::Beside(n, old.kind == NONE)
+            Some(Staged::Beside(n, old.kind == Kind::Nothing))
         }
         Err(error) => stage_instead(rt, old.kind, path, bytes, name, error),
     }
 }
 
 // Whether a regular file may be written: it is opened at its end, and nothing is written.
-fn try_write(rt: &HostRuntime, kind: u8, path: &[u8]) -> Result<()> {
-    if kind == NONE {
+fn try_write(rt: &HostRuntime, kind: Kind, path: &[u8]) -> Result<()> {
+    if kind == Kind::Nothing {
         return Ok(());
     }
     match open_append(rt, path) {
@@ -142,7 +157,7 @@ fn try_write(rt: &HostRuntime, kind: u8, path: &[u8]) -> Result<()> {
     }
 }
 
-fn may_write(rt: &HostRuntime, kind: u8, path: &[u8]) -> bool {
+fn may_write(rt: &HostRuntime, kind: Kind, path: &[u8]) -> bool {
     finish(rt, path, try_write(rt, kind, path))
 }
 
@@ -162,19 +177,19 @@ fn is_usable(rt: &HostRuntime, seen: Seen, path: &[u8]) -> bool {
 
 // Makes ready what can be, and leaves what is there as it is. The lent slice has the name of the file beside, or the
 // bytes of the file in place.
-fn stage(rt: &HostRuntime, path: &[u8], bytes: &[u8], name: &mut [u8]) -> Staged {
+fn stage(rt: &HostRuntime, path: &[u8], bytes: &[u8], name: &mut [u8]) -> Option<Staged> {
     let seen = look(rt, path);
     if !is_usable(rt, seen, path) {
-        return Staged::Failed;
+        return None;
     }
-    if seen.kind == OTHER {
-        return Staged::Stream;
+    if seen.kind == Kind::Other {
+        return Some(Staged::Stream);
     }
     if is_link(rt, path) {
-        return open_place(rt, seen.kind, path, bytes, name);
+        return stage_place(rt, seen.kind, path, bytes, name);
     }
     if !may_write(rt, seen.kind, path) {
-        return Staged::Failed;
+        return None;
     }
     stage_beside(rt, path, bytes, name, seen)
 }
@@ -192,15 +207,10 @@ fn put_stream(rt: &HostRuntime, path: &[u8], bytes: &[u8]) -> bool {
 
 // Where the name of a file that is there cannot be taken, as at a mount point: in place.
 fn put_instead(rt: &HostRuntime, path: &[u8], bytes: &[u8], held: &mut [u8]) -> bool {
-    let staged = open_place(rt, FILE, path, bytes, held);
-    match staged {
-        Staged::Failed => false,
-        Staged::Stream => false,
-        Staged::Place(file, old) => {
-            write_over(rt, &file, old, path, bytes, held) && settle(rt, &file, old, path, bytes)
-        }
-        Staged::Beside(_, _) => false,
-    }
+    let Some((file, old)) = open_place(rt, Kind::File, path, bytes, held) else {
+        return false;
+    };
+    write_over(rt, &file, old, path, bytes, held) && settle(rt, &file, old, path, bytes)
 }
 
 // The file beside takes the name.
@@ -228,7 +238,6 @@ fn put_beside(
 // Does what can be taken back and may fail: a file in place is written over.
 fn begin(rt: &HostRuntime, staged: &Staged, path: &[u8], bytes: &[u8], held: &[u8]) -> bool {
     match staged {
-        Staged::Failed => false,
         Staged::Stream => true,
         Staged::Place(file, old) => write_over(rt, file, *old, path, bytes, held),
         Staged::Beside(_, _) => true,
@@ -238,7 +247,6 @@ fn begin(rt: &HostRuntime, staged: &Staged, path: &[u8], bytes: &[u8], held: &[u
 // Makes what is begun, and answers whether it is made.
 fn complete(rt: &HostRuntime, staged: &Staged, path: &[u8], bytes: &[u8], name: &mut [u8]) -> bool {
     match staged {
-        Staged::Failed => false,
         Staged::Stream => put_stream(rt, path, bytes),
         Staged::Place(file, old) => settle(rt, file, *old, path, bytes),
         Staged::Beside(n, new) => put_beside(rt, *n, *new, path, bytes, name),
@@ -254,7 +262,6 @@ fn remove(rt: &HostRuntime, n: usize, name: &[u8]) {
 // Nothing is begun: what is there is as it was.
 fn abandon(rt: &HostRuntime, staged: &Staged, bytes: &[u8], name: &[u8]) {
     match staged {
-        Staged::Failed => {}
         Staged::Stream => {}
         Staged::Place(file, old) => give_back(file, *old, bytes),
         Staged::Beside(n, _) => remove(rt, *n, name),
@@ -264,7 +271,6 @@ fn abandon(rt: &HostRuntime, staged: &Staged, bytes: &[u8], name: &[u8]) {
 // What was begun is as it was.
 fn take_back(rt: &HostRuntime, staged: &Staged, bytes: &[u8], held: &[u8]) {
     match staged {
-        Staged::Failed => {}
         Staged::Stream => {}
         Staged::Place(file, old) => undo(file, *old, bytes, held),
         Staged::Beside(n, _) => remove(rt, *n, held),
@@ -274,7 +280,6 @@ fn take_back(rt: &HostRuntime, staged: &Staged, bytes: &[u8], held: &[u8]) {
 // Removes a file that was made, where none was before.
 fn unmake(rt: &HostRuntime, staged: &Staged, path: &[u8]) {
     match staged {
-        Staged::Failed => {}
         Staged::Stream => {}
         Staged::Place(_, _) => {}
         Staged::Beside(_, new) => {
@@ -289,17 +294,18 @@ fn unmake(rt: &HostRuntime, staged: &Staged, path: &[u8]) {
 // only to be cut.
 fn rank(staged: &Staged) -> u8 {
     match staged {
-        Staged::Failed => 0,
-        Staged::Stream => 1,
-        Staged::Beside(_, _) => 2,
-        Staged::Place(_, _) => 3,
+        Staged::Stream => 0,
+        Staged::Beside(_, _) => 1,
+        Staged::Place(_, _) => 2,
     }
 }
 
 // Makes a file of these bytes, and answers whether it is made.
 pub fn save(rt: &HostRuntime, path: &[u8], bytes: &[u8]) -> bool {
     let mut name = [0u8; ROOM];
-    let staged = stage(rt, path, bytes, &mut name);
+    let Some(staged) = stage(rt, path, bytes, &mut name) else {
+        return false;
+    };
     begin(rt, &staged, path, bytes, &name) && complete(rt, &staged, path, bytes, &mut name)
 }
 
@@ -352,16 +358,14 @@ fn complete_both(
 // two: names that lead to nothing may turn out to lead to one file.
 pub fn save_both(rt: &HostRuntime, one: &[u8], bytes: &[u8], two: &[u8], more: &[u8]) -> bool {
     let mut name = [0u8; ROOM];
-    let first = stage(rt, one, bytes, &mut name);
-    if rank(&first) == 0 {
+    let Some(first) = stage(rt, one, bytes, &mut name) else {
         return true;
-    }
+    };
     let mut name2 = [0u8; ROOM];
-    let second = stage(rt, two, more, &mut name2);
-    if rank(&second) == 0 {
+    let Some(second) = stage(rt, two, more, &mut name2) else {
         abandon(rt, &first, bytes, &name);
         return true;
-    }
+    };
     if one_file(rt, one, two) {
         abandon(rt, &first, bytes, &name);
         abandon(rt, &second, more, &name2);

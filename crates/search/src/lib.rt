@@ -9,10 +9,9 @@ ghost use Rattle.search.specs.Queue.{place_at, state_at};
 ghost use Rattle.search.specs.Search.{Aim, joint, Ready, Searchable, Expanded, Explored};
 
 pub use reading::{depth, fill};
-use slices::{wide, wide16};
 
 // How the search goes on: with so many codes found, or an ending met, by its code.
-#[derive(Clone, Copy)]
+#[derive(Clone, Copy, Debug, PartialEq, Eq)]
 pub enum Expansion {
     On(usize),
     Ending(usize),
@@ -63,9 +62,8 @@ pub fn expand(
     let from = row * letters;
     let lead = (place % 1048576 - row * width) * letters;
     let mut codes = total;
-    let mut a = 0;
-    while a < letters {
-        let next = wide16(leads[lead + a]) + wide16(rows[from + a]) * (width + 1048576);
+    for a in 0..letters {
+        let next = usize::from(leads[lead + a]) + usize::from(rows[from + a]) * (width + 1048576);
         cells[codes - 1] = (next + 1073741824 * (a + 32 * head)) as u64;
         let x = next % 1048576;
         let m = status[x];
@@ -73,8 +71,7 @@ pub fn expand(
         if m == 2 {
             return Expansion::Ending(codes);
         }
-        codes += wide(m);
-        a += 1;
+        codes += usize::from(m);
     }
     Expansion::On(codes)
 }
@@ -97,10 +94,9 @@ pub fn explore(
     let mut total = 1;
     let mut head = 0;
     while head < total {
-        let step = expand(
+        match expand(
             leads, rows, width, letters, root, head, total, status, cells,
-        );
-        match step {
+        ) {
             Expansion::Ending(code) => {
                 return Expansion::Ending(code);
             }
@@ -116,20 +112,12 @@ pub fn explore(
 pub fn clear(cells: &mut [u64])
     ensures { cells.new ≡ replicate (length cells.old) 0 }
 {
-    let mut i = 0;
-    while i < cells.len() {
-        cells[i] = 0;
-        i += 1;
-    }
+    cells.fill(0);
 }
 
 // Sets every state as not met.
 pub fn refresh(status: &mut [u8])
     ensures { status.new ≡ replicate (length status.old) 1 }
 {
-    let mut i = 0;
-    while i < status.len() {
-        status[i] = 1;
-        i += 1;
-    }
+    status.fill(1);
 }

@@ -23,10 +23,8 @@ pub fn fill(cells: &[u64], code: usize, len: usize, out: &mut [u8])
     ensures { Filled cells.now code len out.old out.new }
 {
     let mut c = code;
-    let mut at = len;
-    while at > 0 {
+    for at in (0..len).rev() {
         let e = cells[c - 1];
-        at -= 1;
         out[at] = (e / 1073741824 % 32) as u8;
         c = (e / 34359738368) as usize;
     }

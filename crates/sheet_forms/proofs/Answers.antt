@@ -1,4 +1,5 @@
 -- What the calls below answer, as the packed sheet of a file. Assumes nothing.
+use Rattle.std.specs.Prelude.{Result, Ok, Err}
 use mathlib.Core.Path.{◌≡◌, refl, ap, ap₂, sym, subst, ◌∙◌}
 use mathlib.Core.Bool.{Bool, cond}
 use mathlib.Core.List.{List, [], ◌∷◌}
@@ -9,21 +10,16 @@ use lib.ListN.{length, get_or}
 use borrow.Author.Tests.{eq-eqb, ne_eqb}
 use Rattle.slices.specs.declared.Part.{Part}
 use Rattle.slices.specs.declared.Refusal.{Refusal}
-use Rattle.slices.specs.declared.Written.{Written}
-use Rattle.slices.specs.declared.Written.TheVariants.{Filled, Refused}
-use Rattle.slices.specs.Refusals.{Fault, fault, Result, given, refused, unless, mapped, fault_in, written_says}
+use Rattle.slices.specs.Refusals.{Fault, fault, unless, mapped, fault_in}
 use Rattle.slices.specs.Filling.{written, filled, Fills}
-use Rattle.slices.proofs.Refusals.{faulty, was-given, was-refused, sound-given}
-use Rattle.packed.specs.declared.Validity.{Validity}
-use Rattle.packed.specs.declared.Validity.TheVariants as validity
+use Rattle.slices.proofs.Refusals.{faulty, never-given, refused-was, was-given, was-refused, sound-given}
 use Rattle.packed.specs.declared.Sizes.{Sizes}
-use Rattle.packed.specs.Faults.{sheet_fault, sizes_of, checked, says_of}
+use Rattle.packed.specs.Faults.{sheet_fault, sizes_of, checked}
 use Rattle.packed.proofs.Soundness.{sound-valid}
 use Rattle.notation.specs.declared.Levelled.{Levelled}
-use Rattle.notation.specs.declared.Levelled.TheVariants as levelled
 use Rattle.notation.specs.Reading as notation
 use Rattle.notation.specs.Reading.{Sheet, sheet_in, said, SheetRead}
-use Rattle.notation.proofs.Taken.{read-refused, read-given}
+use Rattle.notation.proofs.Taken.{read-refused}
 use Rattle.buchi_import.specs.Reading as drawing
 use Rattle.buchi_import.specs.Reading.{Numbers, numbers_of, bytes_in, bytes_of}
 use Rattle.sheet_forms.specs.declared.Form.{Form}
@@ -59,72 +55,79 @@ pub form-as : {any : Bool} (b : List ℕ) (x : Bool) {r : Form} → any ≡ x �
 form-as b x e d = d ∙ ap (λ (y : Bool). form_in_value y b) (sym e)
 
 -- what was read of a file that is text, turned into bytes
-pub fault-refused : {A : Type 0} (x : Result A) {q : Refusal} → fault_in x ≡ fault q → x ≡ refused q
-fault-refused (given a) e = absurd (faulty (sym e))
-fault-refused (refused r) {q} e = let d : r ≡ q = cc in ap refused d
+pub fault-refused : {A : Type 0} (x : Result A Refusal) {q : Refusal} → fault_in x ≡ fault q → x ≡ Err q
+fault-refused (Ok a) e = absurd (faulty (sym e))
+fault-refused (Err r) {q} e = let d : r ≡ q = cc in ap Err d
 
-module _ {A : Type 0} (f : A → List ℕ) (part : Part) (x : Result A) {old out : List ℕ} where
-  pub packs-refused : {q p : Refusal} → x ≡ refused q → p ≡ of_part_of part q → out ≡ old → FillsWith (in_part part (mapped f x)) old out (Refused p)
-  packs-refused e d o = result-refused (ap (λ (y : Result A). in_part part (mapped f y)) e ∙ ap refused (sym d)) o
+module _ {A : Type 0} (f : A → List ℕ) (part : Part) (x : Result A Refusal) {old out : List ℕ} where
+  pub packs-refused : {q p : Refusal} → x ≡ Err q → p ≡ of_part_of part q → out ≡ old → FillsWith (in_part part (mapped f x)) old out (Err p)
+  packs-refused e d o = result-refused (ap (λ (y : Result A Refusal). in_part part (mapped f y)) e ∙ ap Err (sym d)) o
 
-  pub packs-given : {y : A} {n : ℕ} → x ≡ given y → n ≡ length (f y) → out ≡ written (f y) old → FillsWith (in_part part (mapped f x)) old out (Filled n)
-  packs-given e l o = result-given (ap (λ (y : Result A). in_part part (mapped f y)) e) l o
+  pub packs-given : {y : A} {n : ℕ} → x ≡ Ok y → n ≡ length (f y) → out ≡ written (f y) old → FillsWith (in_part part (mapped f x)) old out (Ok n)
+  packs-given e l o = result-given (ap (λ (y : Result A Refusal). in_part part (mapped f y)) e) l o
 
 -- a text
-module _ (t : List ℕ) (part : Part) {old out cells cells' : List ℕ} {r : Levelled} (long : 34850 ≤ length old) (many : length cells ≡ 32) (h : SheetRead (sheet_in t) old cells out cells' r) where
+module _ (t : List ℕ) (part : Part) {old out cells cells' : List ℕ} {r : Result Levelled Refusal} (long : 34850 ≤ length old) (many : length cells ≡ 32) (h : SheetRead (sheet_in t) old cells out cells' r) where
   abbrev F : Fault
   F = notation.read_fault (sheet_in t) (length old) (length cells)
 
   judged : F ≡ fault_in (sheet_in t)
   judged = ap (λ (k : ℕ). notation.read_fault (sheet_in t) (length old) k) many ∙ text-room (length old) long t
 
-  pub text-refused : {q p : Refusal} → r ≡ levelled.Refused q → p ≡ of_part_of part q → FillsWith (sheet_as Text part t) old out (Refused p)
+  text-refused : {q p : Refusal} → r ≡ Err q → p ≡ of_part_of part q → FillsWith (sheet_as Text part t) old out (Err p)
   text-refused {q} e d =
       let g = read-refused h e in
       packs-refused sheet_bytes part (sheet_in t) (fault-refused (sheet_in t) (sym judged ∙ g)) d (h.sheet ∙ ap (λ (f : Fault). filled f (said (sheet_in t)).bytes old) g)
 
-  pub text-filled : {level n : ℕ} → r ≡ levelled.Filled level n → FillsWith (sheet_as Text part t) old out (Filled n)
-  text-filled {level} {n} e =
-      let g = read-given h e in
-      let y = sound-given (sheet_in t) (sym judged ∙ g.0) in
-      packs-given sheet_bytes part (sheet_in t) y.1
-      (ap (λ (x : notation.Told). x.filled) g.1 ∙ ap (λ (x : Result Sheet). length (said x).bytes) y.1)
-      (h.sheet ∙ (λ i. filled (g.0 i) (said (y.1 i)).bytes old))
+  -- what was read, with the part of the file's place in the call
+  pub text-lost : {p : Refusal} → in_part part r ≡ Err p → FillsWith (sheet_as Text part t) old out (Err p)
+  text-lost {p} e = by r refl e
+    where
+      by : (x : Result Levelled Refusal) → r ≡ x → in_part part x ≡ Err p → FillsWith (sheet_as Text part t) old out (Err p)
+      by (Ok l) d k = absurd (never-given (sym k))
+      by (Err q) d k = text-refused d (sym (refused-was k))
 
 -- an automaton
-module _ (t : List ℕ) (part : Part) {old out : List ℕ} {r : Written} (long : 34850 ≤ length old) (h : Fills (drawing.read_fault t (length old)) (bytes_of t) old out r) where
+module _ (t : List ℕ) (part : Part) {old out : List ℕ} {r : Result ℕ Refusal} (long : 34850 ≤ length old) (h : Fills (drawing.read_fault t (length old)) (bytes_of t) old out r) where
   abbrev G : Fault
   G = drawing.read_fault t (length old)
 
-  pub drawn-refused : {q p : Refusal} → r ≡ Refused q → p ≡ of_part_of part q → FillsWith (sheet_as Drawn part t) old out (Refused p)
+  drawn-refused : {q p : Refusal} → r ≡ Err q → p ≡ of_part_of part q → FillsWith (sheet_as Drawn part t) old out (Err p)
   drawn-refused {q} e d =
-      let g = was-refused G (length (bytes_of t)) (sym (ap written_says e) ∙ h.says) in
+      let g = was-refused G (length (bytes_of t)) (sym e ∙ h.says) in
       packs-refused drawn_bytes part (numbers_of t) (fault-refused (numbers_of t) (sym (drawn-room (length old) long t) ∙ g)) d (h.cells ∙ ap (λ (f : Fault). filled f (bytes_of t) old) g)
 
-  pub drawn-filled : {n : ℕ} → r ≡ Filled n → FillsWith (sheet_as Drawn part t) old out (Filled n)
+  drawn-filled : {n : ℕ} → r ≡ Ok n → FillsWith (sheet_as Drawn part t) old out (Ok n)
   unfolding bytes_of
   drawn-filled {n} e =
-      let g = was-given G (length (bytes_of t)) (sym (ap written_says e) ∙ h.says) in
+      let g = was-given G (length (bytes_of t)) (sym e ∙ h.says) in
       let y = sound-given (numbers_of t) (sym (drawn-room (length old) long t) ∙ g.0) in
       packs-given drawn_bytes part (numbers_of t) y.1
-      (g.1 ∙ ap (λ (x : Result Numbers). length (bytes_in x)) y.1)
+      (g.1 ∙ ap (λ (x : Result Numbers Refusal). length (bytes_in x)) y.1)
       (h.cells ∙ (λ i. filled (g.0 i) (bytes_in (y.1 i)) old))
 
--- a packed sheet
-module _ (b : List ℕ) (part : Part) {r : Validity} (h : says_of r ≡ checked part b) where
-  pub kept-room : {z : Sizes} → r ≡ validity.Valid z → length b ≤ 34850
-  kept-room {z} e = valid-few b (sound-valid part b (was-given (sheet_fault part b) (sizes_of b) (sym (ap says_of e) ∙ h)).0)
+  pub drawn-packed : FillsWith (sheet_as Drawn part t) old out (in_part part r)
+  drawn-packed = by r refl
+    where
+      by : (x : Result ℕ Refusal) → r ≡ x → FillsWith (sheet_as Drawn part t) old out (in_part part x)
+      by (Ok n) e = drawn-filled e
+      by (Err q) e = drawn-refused e refl
 
-  pub kept-refused : (old : List ℕ) {q : Refusal} → r ≡ validity.Refused q → FillsWith (sheet_as Packed part b) old old (Refused q)
+-- a packed sheet
+module _ (b : List ℕ) (part : Part) {r : Result Sizes Refusal} (h : r ≡ checked part b) where
+  pub kept-room : {z : Sizes} → r ≡ Ok z → length b ≤ 34850
+  kept-room {z} e = valid-few b (sound-valid part b (was-given (sheet_fault part b) (sizes_of b) (sym e ∙ h)).0)
+
+  pub kept-refused : (old : List ℕ) {q : Refusal} → r ≡ Err q → FillsWith (sheet_as Packed part b) old old (Err q)
   kept-refused old {q} e =
-      let g = was-refused (sheet_fault part b) (sizes_of b) (sym (ap says_of e) ∙ h) in
+      let g = was-refused (sheet_fault part b) (sizes_of b) (sym e ∙ h) in
       result-refused (ap (λ (f : Fault). unless f b) g) refl
 
-  pub kept-filled : {old out : List ℕ} {z : Sizes} → r ≡ validity.Valid z → out ≡ written b old → FillsWith (sheet_as Packed part b) old out (Filled (length b))
+  pub kept-filled : {old out : List ℕ} {z : Sizes} → r ≡ Ok z → out ≡ written b old → FillsWith (sheet_as Packed part b) old out (Ok (length b))
   kept-filled {old} {out} e o =
-      let g = was-given (sheet_fault part b) (sizes_of b) (sym (ap says_of e) ∙ h) in
+      let g = was-given (sheet_fault part b) (sizes_of b) (sym e ∙ h) in
       result-given (ap (λ (f : Fault). unless f b) g.0) refl o
 
 -- whatever the form
-pub packs-as : {form : Form} (x : Form) (part : Part) (b : List ℕ) {old out : List ℕ} {r : Written} → form ≡ x → FillsWith (sheet_as x part b) old out r → FillsWith (sheet_as form part b) old out r
+pub packs-as : {form : Form} (x : Form) (part : Part) (b : List ℕ) {old out : List ℕ} {r : Result ℕ Refusal} → form ≡ x → FillsWith (sheet_as x part b) old out r → FillsWith (sheet_as form part b) old out r
 packs-as x part b {old} {out} {r} e h = subst (λ (y : Form). FillsWith (sheet_as y part b) old out r) (sym e) h

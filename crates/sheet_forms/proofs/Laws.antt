@@ -1,12 +1,14 @@
 -- No bytes are good in two forms: a packed sheet begins with a number from 1 to 32, a text with `l`, an automaton with `[`. So a file that is good
 -- in some form is taken in that form, and no other. Assumes nothing.
+use Rattle.std.specs.Prelude.{Result, Ok}
+use Rattle.slices.specs.declared.Refusal.{Refusal}
 use mathlib.Core.Path.{◌≡◌, refl, ap, sym, ◌∙◌}
 use mathlib.Core.List.{List}
 use Prim.Native.Nat.{ℕ, ◌≤◌}
 use native.Mathlib.Omega.{arith}
 use lib.ListN.{get_or}
 use Rattle.slices.specs.declared.Part.{Part}
-use Rattle.slices.specs.Refusals.{Fault, sound, Result, given, unless, mapped}
+use Rattle.slices.specs.Refusals.{Fault, sound, unless, mapped}
 use Rattle.fdfa.specs.Buchi.{Dba}
 use Rattle.packed.specs.Faults.{sheet_fault}
 use Rattle.packed.proofs.Soundness.{sound-valid}
@@ -35,16 +37,16 @@ drawn-begins : (D : Dba) → get_or (buchi_text D) 0 0 ≡ 91
 unfolding buchi_text
 drawn-begins D = refl
 
-pub text-first : (b : List ℕ) (x : Sheet) → sheet_in b ≡ given x → get_or b 0 0 ≡ 108
+pub text-first : (b : List ℕ) (x : Sheet) → sheet_in b ≡ Ok x → get_or b 0 0 ≡ 108
 text-first b x e = ap (λ (t : List ℕ). get_or t 0 0) (sym (notation.read-text b x e).1) ∙ text-begins x
 
-pub drawn-first : (b : List ℕ) (w : Numbers) → numbers_of b ≡ given w → get_or b 0 0 ≡ 91
+pub drawn-first : (b : List ℕ) (w : Numbers) → numbers_of b ≡ Ok w → get_or b 0 0 ≡ 91
 drawn-first b w e = ap (λ (t : List ℕ). get_or t 0 0) (sym (drawing.read-text b w e)) ∙ drawn-begins (automaton_of w)
 
 -- The bytes are good in a form.
 pub data Good (part : Part) (b : List ℕ) : Form → Type 0 where
-  good_text : (x : Sheet) → sheet_in b ≡ given x → Good part b Text
-  good_drawn : (w : Numbers) → numbers_of b ≡ given w → Good part b Drawn
+  good_text : (x : Sheet) → sheet_in b ≡ Ok x → Good part b Text
+  good_drawn : (w : Numbers) → numbers_of b ≡ Ok w → Good part b Drawn
   good_packed : sheet_fault part b ≡ sound → Good part b Packed
 
 -- what is good in a form is taken in that form
@@ -64,11 +66,11 @@ module _ (part : Part) (b : List ℕ) where
   taken : (f : Form) → Good part b f → sheet_from part b ≡ sheet_as f part b
   taken f g = ap (λ (x : Form). sheet_as x part b) (good-form part b f g)
 
-  pub text-taken : (x : Sheet) → sheet_in b ≡ given x → sheet_from part b ≡ given x.bytes
-  text-taken x e = taken Text (good_text x e) ∙ ap (λ (y : Result Sheet). in_part part (mapped sheet_bytes y)) e
+  pub text-taken : (x : Sheet) → sheet_in b ≡ Ok x → sheet_from part b ≡ Ok x.bytes
+  text-taken x e = taken Text (good_text x e) ∙ ap (λ (y : Result Sheet Refusal). in_part part (mapped sheet_bytes y)) e
 
-  pub drawn-taken : (w : Numbers) → numbers_of b ≡ given w → sheet_from part b ≡ given (drawn_bytes w)
-  drawn-taken w e = taken Drawn (good_drawn w e) ∙ ap (λ (y : Result Numbers). in_part part (mapped drawn_bytes y)) e
+  pub drawn-taken : (w : Numbers) → numbers_of b ≡ Ok w → sheet_from part b ≡ Ok (drawn_bytes w)
+  drawn-taken w e = taken Drawn (good_drawn w e) ∙ ap (λ (y : Result Numbers Refusal). in_part part (mapped drawn_bytes y)) e
 
-  pub packed-taken : sheet_fault part b ≡ sound → sheet_from part b ≡ given b
+  pub packed-taken : sheet_fault part b ≡ sound → sheet_from part b ≡ Ok b
   packed-taken e = taken Packed (good_packed e) ∙ ap (λ (y : Fault). unless y b) e

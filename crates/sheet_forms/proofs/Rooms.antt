@@ -1,4 +1,7 @@
 -- Every sheet that is read has room: at most 34,850 bytes, and at most 32 seconds. So no form is refused for room. Assumes nothing.
+use Rattle.slices.specs.declared.Reason.TheVariants.{TooLittleRoom}
+use Rattle.std.specs.Prelude.{Result, Ok, Err}
+use Rattle.slices.specs.declared.Refusal.{Refusal}
 use mathlib.Core.Path.{◌≡◌, refl, ◌∙◌}
 use mathlib.Core.Bool.{Bool, true, false, cond}
 use mathlib.Core.List.{List}
@@ -8,7 +11,7 @@ use lib.Dec.{eqb}
 use lib.ListN.{length}
 use borrow.Author.Tests.{le-ltb}
 use Rattle.slices.specs.declared.Part.TheVariants.{Out, Seconds}
-use Rattle.slices.specs.Refusals.{sound, Result, given, refused, fault_in}
+use Rattle.slices.specs.Refusals.{sound, fault_in}
 use Rattle.slices.proofs.Refusals.{passed, when-passes}
 use Rattle.packed.specs.Layout.{letter_count, Valid}
 use Rattle.packed.proofs.Bounds.{sheet-few}
@@ -37,25 +40,25 @@ timed-few level s h = by (eqb level 4)
 module _ (room : ℕ) (long : 34850 ≤ room) where
   sheet-room : (x : Sheet) → Writable x → room_fault x room 32 ≡ sound
   sheet-room x w =
-      passed _ (when-passes 21 Out (length x.bytes) (le-ltb room (length x.bytes) (omega (arith, valid-few x.bytes w.valid))))
-      ∙ when-passes 21 Seconds (length x.seconds) (le-ltb 32 (length x.seconds) (omega (arith, w.exact, timed-few x.level (letter_count x.bytes) w.valid.header.few_letters)))
+      passed _ (when-passes TooLittleRoom Out (length x.bytes) (le-ltb room (length x.bytes) (omega (arith, valid-few x.bytes w.valid))))
+      ∙ when-passes TooLittleRoom Seconds (length x.seconds) (le-ltb 32 (length x.seconds) (omega (arith, w.exact, timed-few x.level (letter_count x.bytes) w.valid.header.few_letters)))
 
   -- a text is refused for what it says alone
   pub text-room : (t : List ℕ) → notation.read_fault (sheet_in t) room 32 ≡ fault_in (sheet_in t)
   text-room t = by (sheet_in t) refl
     where
-      by : (x : Result Sheet) → sheet_in t ≡ x → notation.read_fault x room 32 ≡ fault_in x
-      by (given x) e = sheet-room x (laws.read-text t x e).0
-      by (refused r) e = refl
+      by : (x : Result Sheet Refusal) → sheet_in t ≡ x → notation.read_fault x room 32 ≡ fault_in x
+      by (Ok x) e = sheet-room x (laws.read-text t x e).0
+      by (Err r) e = refl
 
   -- and so is an automaton
-  pub drawn-few : (t : List ℕ) (w : Numbers) → drawing.numbers_of t ≡ given w → length (drawn_bytes w) ≤ 34850
+  pub drawn-few : (t : List ℕ) (w : Numbers) → drawing.numbers_of t ≡ Ok w → length (drawn_bytes w) ≤ 34850
   drawn-few t w e = valid-few (drawn_bytes w) (pack-says (automaton_of w) (read-drawable t w e)).valid
 
   pub drawn-room : (t : List ℕ) → drawing.read_fault t room ≡ fault_in (drawing.numbers_of t)
   unfolding drawing.read_fault
   drawn-room t = by (drawing.numbers_of t) refl
     where
-      by : (x : Result Numbers) → drawing.numbers_of t ≡ x → pack_fault x room ≡ fault_in x
-      by (given w) e = when-passes 21 Out (length (drawn_bytes w)) (le-ltb room (length (drawn_bytes w)) (omega (arith, drawn-few t w e)))
-      by (refused r) e = refl
+      by : (x : Result Numbers Refusal) → drawing.numbers_of t ≡ x → pack_fault x room ≡ fault_in x
+      by (Ok w) e = when-passes TooLittleRoom Out (length (drawn_bytes w)) (le-ltb room (length (drawn_bytes w)) (omega (arith, drawn-few t w e)))
+      by (Err r) e = refl

@@ -6,15 +6,13 @@ ghost use Rattle.sheet_forms.specs.declared.Form.TheVariants.{Text, Drawn, Packe
 ghost use Rattle.sheet_forms.specs.Forms.{form_of, form_in_value, is_text_of, of_part_of, sheet_as, FillsWith};
 
 use buchi_import::import;
-use notation::Levelled;
-use packed::Validity;
-use slices::{Part, Refusal, Written, copy};
+use slices::{Part, Refusal, copy};
 
 // The longest packed sheet: 32 scenes, 32 places, 32 places in each loop automaton.
 pub const SHEET: usize = 34850;
 
 // How a file's bytes are read.
-#[derive(Clone, Copy)]
+#[derive(Clone, Copy, Debug, PartialEq, Eq)]
 pub enum Form {
     Text,
     Drawn,
@@ -61,55 +59,39 @@ pub fn is_text(form: Form) -> bool
 fn of_part(r: Refusal, part: Part) -> Refusal
     ensures { result ≡ of_part_of part r }
 {
-    Refusal {
-        number: r.number,
-        part,
-        place: r.place,
-    }
+    Refusal { part, ..r }
 }
 
 // A packed sheet as it is.
-fn keep(bytes: &[u8], part: Part, out: &mut [u8]) -> Written
+fn keep(bytes: &[u8], part: Part, out: &mut [u8]) -> Result<usize, Refusal>
     requires { 34850 ≤ length out.old }
     ensures { FillsWith (sheet_as Packed part bytes.now) out.old out.new result }
 {
-    let validity = packed::check(bytes, part);
-    match validity {
-        Validity::Refused(r) => Written::Refused(r),
-        Validity::Valid(_) => {
-            copy(bytes, out);
-            Written::Filled(bytes.len())
-        }
-    }
+    packed::check(bytes, part)?;
+    copy(bytes, out);
+    Ok(bytes.len())
 }
 
 // The sheet of a text of either level. Its seconds are passed over.
-fn pack_text(bytes: &[u8], part: Part, out: &mut [u8]) -> Written
+fn pack_text(bytes: &[u8], part: Part, out: &mut [u8]) -> Result<usize, Refusal>
     requires { 34850 ≤ length out.old }
     ensures { FillsWith (sheet_as Text part bytes.now) out.old out.new result }
 {
     let mut seconds = [0u16; 32];
-    let answer = notation::read(bytes, out, &mut seconds);
-    match answer {
-        Levelled::Refused(r) => Written::Refused(of_part(r, part)),
-        Levelled::Filled(_, n) => Written::Filled(n),
-    }
+    let sheet = notation::read(bytes, out, &mut seconds).map_err(|r| of_part(r, part))?;
+    Ok(sheet.filled)
 }
 
 // The sheet of a drawn automaton.
-fn pack_drawn(bytes: &[u8], part: Part, out: &mut [u8]) -> Written
+fn pack_drawn(bytes: &[u8], part: Part, out: &mut [u8]) -> Result<usize, Refusal>
     requires { 34850 ≤ length out.old }
     ensures { FillsWith (sheet_as Drawn part bytes.now) out.old out.new result }
 {
-    let answer = import(bytes, out);
-    match answer {
-        Written::Refused(r) => Written::Refused(of_part(r, part)),
-        Written::Filled(n) => Written::Filled(n),
-    }
+    import(bytes, out).map_err(|r| of_part(r, part))
 }
 
 // The packed sheet that a file's bytes are, to the start of the out slice.
-pub fn pack(form: Form, bytes: &[u8], part: Part, out: &mut [u8]) -> Written
+pub fn pack(form: Form, bytes: &[u8], part: Part, out: &mut [u8]) -> Result<usize, Refusal>
     requires { 34850 ≤ length out.old }
     ensures { FillsWith (sheet_as form part bytes.now) out.old out.new result }
 {

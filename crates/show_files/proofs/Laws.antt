@@ -1,4 +1,5 @@
 -- The text of a lasso is read where its parts have room, and its words are the lasso. Assumes nothing.
+use Rattle.slices.specs.declared.Reason.TheVariants.{TooLittleRoom}
 use mathlib.Core.Path.{◌≡◌, ◌∙◌}
 use mathlib.Core.List.{List}
 use Prim.Native.Nat.{ℕ, ◌≤◌}
@@ -20,4 +21,4 @@ module _ (u v : List ℕ) (r : Readable 32 u v) where
   pub lasso-room : (o p : ℕ) → length u ≤ o → length v ≤ p → read_fault (shown (lasso_text_of u v)) o p ≡ sound
   lasso-room o p h k =
       text-read 32 Second (omega arith) u v r o p
-      ∙ (passed _ (when-passes 21 Opening (length u) (le-ltb o (length u) h)) ∙ when-passes 21 Loop (length v) (le-ltb p (length v) k))
+      ∙ (passed _ (when-passes TooLittleRoom Opening (length u) (le-ltb o (length u) h)) ∙ when-passes TooLittleRoom Loop (length v) (le-ltb p (length v) k))

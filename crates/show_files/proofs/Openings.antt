@@ -1,5 +1,8 @@
 -- A text that is read has at most 4,096 opening lines, and as many loop lines. Assumes nothing.
-use mathlib.Core.Path.{◌≡◌, refl, ap, sym, ◌∙◌}
+use Rattle.slices.specs.declared.Reason.TheVariants.{TooLittleRoom}
+use Rattle.std.specs.Prelude.{Result}
+use Rattle.slices.specs.declared.Refusal.{Refusal}
+use mathlib.Core.Path.{◌≡◌, refl, ap, ◌∙◌}
 use mathlib.Core.List.{List}
 use Prim.Native.Nat.{ℕ, ◌≤◌}
 use native.Mathlib.Omega.{arith}
@@ -9,7 +12,7 @@ use borrow.Author.Tests.{ltb-false}
 use Rattle.slices.specs.declared.Part.TheVariants.{Opening, Loop}
 use Rattle.slices.specs.Refusals.{Fault, sound, fault, ◌then◌, when, unless}
 use Rattle.slices.proofs.Refusals.{then-left, then-right, when-sound}
-use Rattle.lasso_text.specs.Reading.{words_in, text_fault, read_fault, sizes_of, lengths_say}
+use Rattle.lasso_text.specs.Reading.{words_in, text_fault, read_fault, sizes_of}
 use Rattle.lasso_text.specs.declared.Lengths.{Lengths}
 use Rattle.show_files.specs.Shown.{shown, prefix_in, openings}
 
@@ -21,18 +24,18 @@ module _ (t : List ℕ) where
   n = length (words_in (shown t)).period
 
   opening : Fault
-  opening = when (ltb 4096 m) 21 Opening m
+  opening = when (ltb 4096 m) TooLittleRoom Opening m
 
   loop : Fault
-  loop = when (ltb 4096 n) 21 Loop n
+  loop = when (ltb 4096 n) TooLittleRoom Loop n
 
   -- both parts
   pub both-few : read_fault (shown t) 4096 4096 ≡ sound → (length (words_in (shown t)).prefix ≤ 4096) × (length (words_in (shown t)).period ≤ 4096)
   unfolding m n opening loop
   both-few e =
       let d = then-right (text_fault (shown t)) (opening then loop) e in (
-        ltb-false 4096 m (when-sound (ltb 4096 m) 21 Opening m (then-left opening loop d)),
-        ltb-false 4096 n (when-sound (ltb 4096 n) 21 Loop n (then-right opening loop d)),
+        ltb-false 4096 m (when-sound (ltb 4096 m) TooLittleRoom Opening m (then-left opening loop d)),
+        ltb-false 4096 n (when-sound (ltb 4096 n) TooLittleRoom Loop n (then-right opening loop d)),
       )
 
   few : (f : Fault) → read_fault (shown t) 4096 4096 ≡ f → prefix_in (unless f (sizes_of (words_in (shown t)))) ≤ 4096
@@ -40,8 +43,8 @@ module _ (t : List ℕ) where
   few (fault r) e = omega arith
 
   -- what the code counts
-  pub counted : {l : Lengths} (r : Lengths) → l ≡ r → lengths_say l ≡ unless (read_fault (shown t) 4096 4096) (sizes_of (words_in (shown t)))
-      → (prefix_in (lengths_say r) ≡ openings t) × (prefix_in (lengths_say r) ≤ 4096)
+  pub counted : {n : ℕ} (r : Result Lengths Refusal) → n ≡ prefix_in r → r ≡ unless (read_fault (shown t) 4096 4096) (sizes_of (words_in (shown t)))
+      → (n ≡ openings t) × (n ≤ 4096)
   counted r e h =
-      let d = ap (λ (x : Lengths). prefix_in (lengths_say x)) (sym e) ∙ ap prefix_in h in
+      let d = e ∙ ap prefix_in h in
       (d, omega (arith, d, few (read_fault (shown t) 4096 4096) refl))

@@ -4,7 +4,7 @@
 ghost use Rattle.std.specs.Prelude.{◌≡◌, ◌≤◌};
 ghost use Rattle.show_files.specs.Shown.{openings};
 
-use lasso_text::Lengths;
+use lasso_text::read;
 use slices::Part;
 
 // Room for the scenes of each part.
@@ -16,9 +16,5 @@ pub fn count_openings(show: &[u8]) -> usize
 {
     let mut opening = [0u8; SCENES];
     let mut period = [0u8; SCENES];
-    let lengths = lasso_text::read(show, Part::Second, &mut opening, &mut period);
-    match lengths {
-        Lengths::Refused(_) => 0,
-        Lengths::Filled(m, _) => m,
-    }
+    read(show, Part::Second, &mut opening, &mut period).map_or(0, |lengths| lengths.prefix)
 }

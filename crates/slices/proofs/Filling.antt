@@ -1,4 +1,5 @@
 -- Filling a slice cell by cell, and part by part. Assumes nothing.
+use Rattle.std.specs.Prelude.{Result, Ok, Err}
 use mathlib.Core.Path.{◌≡◌, refl, ap, ap₂, sym, subst, ◌∙◌}
 use mathlib.Core.List.{List, [], ◌∷◌, ◌++◌, append-nil, append_assoc}
 use Prim.Native.Nat.{ℕ, zero, suc, ◌+◌, ◌-◌, ◌≤◌, ◌<◌}
@@ -7,9 +8,7 @@ use native.Mathlib.Numerals.{add-one}
 use lib.ListN.{length, get_or, take, drop, set, length-set, length-append, length-take, length-drop, drop_of_length-le, replicate, length-replicate}
 use lib.Seq.{length-take-le, take_all, take-append_seam, drop-append_seam, drop-append-add, drop-drop, drop-cons, set-append_seam}
 use Rattle.slices.specs.declared.Refusal.{Refusal}
-use Rattle.slices.specs.declared.Written.{Written}
-use Rattle.slices.specs.declared.Written.TheVariants.{Filled, Refused}
-use Rattle.slices.specs.Refusals.{Fault, sound, fault, given, unless}
+use Rattle.slices.specs.Refusals.{Fault, sound, fault, unless}
 use Rattle.slices.specs.Filling.{written, filled, Fills}
 use Rattle.slices.specs.Tables.{tab, rows}
 use Rattle.slices.proofs.Tables.{length-tab, get_or-first, get_or-tab, tab-get_or, rows-within}
@@ -203,15 +202,15 @@ module _ {m : ℕ} {f : ℕ → List ℕ} {old out : List ℕ} {at x : ℕ} (s :
   rows_all h = let e : x ≡ m = omega (arith, s.upto) in s.begun.cells ∙ ap (λ (k : ℕ). written (rows k f) old) e
 
 -- a call that fills the slice, where it is refused, and where it is not
-pub fill-refused : (new old : List ℕ) {f : Fault} {r : Refusal} → f ≡ fault r → Fills f new old old (Refused r)
+pub fill-refused : (new old : List ℕ) {f : Fault} {r : Refusal} → f ≡ fault r → Fills f new old old (Err r)
 fill-refused new old e = record {
   says = ap (λ (x : Fault). unless x (length new)) (sym e);
   cells = ap (λ (x : Fault). filled x new old) (sym e);
 }
 
-pub fill-given : (new : List ℕ) {old out : List ℕ} {f : Fault} {n : ℕ} → f ≡ sound → n ≡ length new → out ≡ written new old → Fills f new old out (Filled n)
+pub fill-given : (new : List ℕ) {old out : List ℕ} {f : Fault} {n : ℕ} → f ≡ sound → n ≡ length new → out ≡ written new old → Fills f new old out (Ok n)
 fill-given new {old} e l d = record {
-  says = ap given l ∙ ap (λ (x : Fault). unless x (length new)) (sym e);
+  says = ap Ok l ∙ ap (λ (x : Fault). unless x (length new)) (sym e);
   cells = d ∙ ap (λ (x : Fault). filled x new old) (sym e);
 }
 
@@ -231,7 +230,7 @@ filled-front u old {out = out} e h d = (
     w : out ≡ u ++ drop (length u) old
     w = d ∙ ap (λ (x : Fault). filled x u old) e
 
-pub fills-as : {f g : Fault} {new old out : List ℕ} {r : Written} → f ≡ g → Fills f new old out r → Fills g new old out r
+pub fills-as : {f g : Fault} {new old out : List ℕ} {r : Result ℕ Refusal} → f ≡ g → Fills f new old out r → Fills g new old out r
 fills-as {new = new} {old = old} {out = out} {r = r} e h = subst (λ (x : Fault). Fills x new old out r) e h
 
 -- a slice filled whole with one value

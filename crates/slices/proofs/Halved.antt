@@ -1,15 +1,16 @@
 -- Numbers of 16 bits and their bytes: each is had back from the other, and both are filled in by a loop. Assumes nothing.
-use mathlib.Core.Path.{◌≡◌, ap, ap₂, sym, ◌∙◌}
+use mathlib.Core.Path.{◌≡◌, ap, ap₂, sym, subst, ◌∙◌}
 use mathlib.Core.List.{List, [], ◌∷◌, ◌++◌, append_assoc}
-use Prim.Native.Nat.{ℕ, ◌+◌, ◌*◌, ◌/◌, ◌%◌, ◌≤◌, ◌<◌}
+use Prim.Native.Nat.{ℕ, ◌+◌, ◌-◌, ◌*◌, ◌/◌, ◌%◌, ◌≤◌, ◌<◌}
 use native.Mathlib.Omega.{arith}
 use native.Mathlib.Nat.{add-zero}
-use lib.ListN.{length, get_or, set, length-append}
+use lib.ListN.{length, get_or, set, drop, length-append, length-drop}
+use lib.Seq.{get_or-drop, drop-append_seam, drop-drop}
 use Rattle.slices.specs.Filling.{written}
 use Rattle.slices.specs.Tables.{tab, rows}
 use Rattle.slices.specs.Halves.{halves_of, half_bytes_of}
-use Rattle.slices.proofs.Tables.{length-tab, get_or-tab, tab-get_or, tab-same, rows_same, length-rows, sum-even, get_or-table, table-tab}
-use Rattle.slices.proofs.Filling.{Begun, begun-as, begun-cell, rows-begin, rows_next}
+use Rattle.slices.proofs.Tables.{length-tab, get_or-first, get_or-tab, tab-get_or, tab-same, rows_same, length-rows, sum-even, get_or-table, table-tab}
+use Rattle.slices.proofs.Filling.{Begun, begun-as, begun-cell, rows-begin, rows_next, Filling, filling-none, filling-more, filling-all}
 
 -- the number i of some bytes, and the two bytes of the number i
 abbrev pub half_at : List ℕ → ℕ → ℕ
@@ -73,6 +74,50 @@ bytes_halves b even small =
         let low : get_or (halves_of b) q 0 % 256 ≡ get_or b (q * 2) 0 = omega arith in
         let high : get_or (halves_of b) q 0 / 256 ≡ get_or b (q * 2 + 1) 0 = omega arith in
         ap₂ (λ (x y : ℕ). x ∷ y ∷ []) (low ∙ ap (λ (n : ℕ). get_or b n 0) (sym (add-zero (q * 2)))) high
+
+-- A slice to which the first i numbers of b are written; the bytes from there on are left.
+pub record Paired (b old out : List ℕ) (i size : ℕ) (rest : List ℕ) : Type 0 where
+  pub filling : Filling (length b / 2) (half_at b) old out i
+  pub left : rest ≡ drop (i * 2) b
+  pub two : size ≡ 2
+
+pub paired-none : {b old : List ℕ} {i size : ℕ} {rest : List ℕ} → length b / 2 ≤ length old → i ≡ 0 → size ≡ 2 → rest ≡ b → Paired b old old i size rest
+paired-none {b} {old} h z e d = record {
+  filling = subst (Filling (length b / 2) (half_at b) old old) (sym z) (filling-none (length b / 2) (half_at b) old h);
+  left = d ∙ ap (λ (k : ℕ). drop (k * 2) b) (sym z);
+  two = e;
+}
+
+module _ {b old out : List ℕ} {i size : ℕ} {rest : List ℕ} (s : Paired b old out i size rest) where
+  -- the next two bytes
+  module _ (x after : List ℕ) (e : rest ≡ x ++ after) (n : length x ≡ size) where
+    whole : length b - i * 2 ≡ 2 + length after
+    whole = sym (length-drop (i * 2) b) ∙ (ap length (sym s.left ∙ e) ∙ omega (arith, length-append x after, s.two))
+
+    pub pair-within : i < length b / 2
+    pair-within = omega (arith, whole)
+
+    byte : (k : ℕ) → k < 2 → get_or x k 0 ≡ get_or b (i * 2 + k) 0
+    byte k h =
+        sym (get_or-first x after k (omega (arith, h, n, s.two)))
+        ∙ (ap (λ (l : List ℕ). get_or l k 0) (sym e ∙ s.left) ∙ get_or-drop (i * 2) b k 0)
+
+    -- the number that they are
+    pub paired-more : {v at j more : ℕ} → v ≡ get_or x 0 0 + get_or x 1 0 * 256 → at ≡ i → j ≡ i + 1 → more ≡ size → Paired b old (set out at v) j more after
+    paired-more {v} {at} {j} {more} d a f g = record {
+      filling =
+          subst (λ (k : ℕ). Filling (length b / 2) (half_at b) old (set out k v) j) (sym a)
+          (subst (Filling (length b / 2) (half_at b) old (set out i v)) (sym f)
+          (filling-more v s.filling pair-within (d ∙ ap₂ (λ (l h : ℕ). l + h * 256) (byte 0 (omega arith) ∙ ap (λ (k : ℕ). get_or b k 0) (add-zero (i * 2))) (byte 1 (omega arith)))));
+      left =
+          sym (drop-append_seam x after)
+          ∙ (ap (drop (length x)) (sym e ∙ s.left) ∙ (drop-drop (length x) (i * 2) b ∙ ap (λ (k : ℕ). drop k b) (omega (arith, n, s.two, f))));
+      two = g ∙ s.two;
+    }
+
+  pub paired-all : length rest < size → out ≡ written (halves_of b) old
+  unfolding halves_of
+  paired-all h = filling-all s.filling (omega (arith, h, s.two, length-drop (i * 2) b, ap length s.left))
 
 -- A slice to which the bytes of the first i numbers of w are written.
 pub record Halving (w old out : List ℕ) (i : ℕ) : Type 0 where

@@ -1,6 +1,7 @@
 -- The first of some cells that is out of a range. Assumes nothing.
 use Rattle.std.specs.Prelude.{Bool, ◌||◌, List, ℕ, ◌+◌, ltb, leb, get_or}
 use Rattle.slices.specs.declared.Part.{Part}
+use Rattle.slices.specs.declared.Reason.{Reason}
 use Rattle.slices.specs.Refusals.{Fault, when}
 use Rattle.slices.specs.Extremes.{least}
 
@@ -13,6 +14,6 @@ unfoldable pub first_outside_of : ℕ → ℕ → List ℕ → ℕ → ℕ → �
 first_outside_of low limit b at count = least count (λ i. outside low limit (get_or b (at + i) 0))
 
 -- The first of them that is outside is refused, at its place.
-abbrev pub scan : ℕ → Part → ℕ → ℕ → List ℕ → ℕ → ℕ → Fault
-scan number part low limit b at count =
-    when (ltb (first_outside_of low limit b at count) count) number part (at + first_outside_of low limit b at count)
+abbrev pub scan : Reason → Part → ℕ → ℕ → List ℕ → ℕ → ℕ → Fault
+scan reason part low limit b at count =
+    when (ltb (first_outside_of low limit b at count) count) reason part (at + first_outside_of low limit b at count)

@@ -2,14 +2,9 @@
 ghost use Rattle.std.specs.Prelude.{◌≡◌, ◌+◌};
 ghost use Rattle.slices.specs.Capped.{capped};
 
-const MOST: usize = 18446744073709551615;
-
 // The sum, or the largest number where that is less.
 pub fn sum(a: usize, b: usize) -> usize
     ensures { result ≡ capped (a + b) }
 {
-    if MOST - a < b {
-        return MOST;
-    }
-    a + b
+    a.saturating_add(b)
 }

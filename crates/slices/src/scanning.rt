@@ -2,8 +2,6 @@
 ghost use Rattle.std.specs.Prelude.{◌≡◌, true, ℕ, ◌+◌, ◌≤◌, ◌<◌, length, get_or};
 ghost use Rattle.slices.specs.Scans.{outside, first_outside_of};
 
-use crate::wide;
-
 pub fn is_outside(low: usize, limit: usize, c: usize) -> bool
     ensures { result ≡ outside low limit c }
 {
@@ -15,13 +13,8 @@ fn top(word: &[u8]) -> u8
     ensures { (i : ℕ) → i < length word.now → get_or word.now i 0 ≤ result }
 {
     let mut most = 0;
-    let mut i = 0;
-    while i < word.len() {
-        let x = word[i];
-        if most < x {
-            most = x;
-        }
-        i += 1;
+    for &x in word {
+        most = most.max(x);
     }
     most
 }
@@ -35,9 +28,7 @@ fn is_inside(bytes: &[u8], low: usize, limit: usize, at: usize, count: usize) ->
     if low > 0 {
         return false;
     }
-    let end = at + count;
-    let most = wide(top(&bytes[at..end]));
-    most < limit
+    usize::from(top(&bytes[at..at + count])) < limit
 }
 
 // How many of `count` bytes from `at` on come before the first that is not from `low` to `limit` − 1.
@@ -48,14 +39,10 @@ pub fn first_outside(bytes: &[u8], low: usize, limit: usize, at: usize, count: u
     if is_inside(bytes, low, limit, at, count) {
         return count;
     }
-    let mut i = 0;
-    while i < count {
-        if is_outside(low, limit, wide(bytes[at + i])) {
-            return i;
-        }
-        i += 1;
-    }
-    count
+    bytes[at..at + count]
+        .iter()
+        .position(|&x| is_outside(low, limit, usize::from(x)))
+        .unwrap_or(count)
 }
 
 // How many letters of a word come before the first that is not below `letters`.

@@ -11,23 +11,22 @@ ghost use Rattle.standing.specs.Structs.{standings_of};
 ghost use Rattle.standing.specs.Walks.{WalksWithin, walked_of};
 
 use pairing::Beside;
-use slices::wide;
 
 // Where one sheet stands.
-#[derive(Clone, Copy)]
+#[derive(Clone, Copy, Debug, PartialEq, Eq)]
 pub struct Standing {
     pub waits: usize,
     pub ends: usize,
 }
 
-#[derive(Clone, Copy)]
+#[derive(Clone, Copy, Debug, PartialEq, Eq)]
 pub struct Standings {
     pub first: Standing,
     pub second: Standing,
 }
 
 // A state of each of two automata.
-#[derive(Clone, Copy)]
+#[derive(Clone, Copy, Debug, PartialEq, Eq)]
 struct Pair {
     first: usize,
     second: usize,
@@ -41,12 +40,10 @@ fn walk(first: &[u8], second: &[u8], t: Beside, word: &[u8]) -> Pair
 {
     let mut p = 0;
     let mut q = 0;
-    let mut i = 0;
-    while i < word.len() {
-        let a = wide(word[i]);
+    for &letter in word {
+        let a = usize::from(letter);
         p = packed::next(first, t.first, t.letters, p, a);
         q = packed::next(second, t.second, t.letters, q, a);
-        i += 1;
     }
     Pair {
         first: p,

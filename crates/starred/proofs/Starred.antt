@@ -1,4 +1,6 @@
 -- The starred rows of 01, proved about the definitions as one statement over a list. Assumes nothing.
+use Rattle.std.specs.Prelude.{Result, Ok, Err}
+use Rattle.slices.specs.declared.Refusal.{Refusal}
 use mathlib.Core.Path.{◌≡◌, refl}
 use mathlib.Core.Bool.{Bool, true, false}
 use mathlib.Core.List.{List, [], ◌∷◌}
@@ -8,7 +10,6 @@ use Rattle.fdfa.specs.Normalization.{return_from, returning}
 use Rattle.fdfa.specs.Acceptance.{Verdict}
 use Rattle.fdfa.specs.Enumeration.{first_letter, first_of_length, first_word, Witness, absent, lasso}
 use Rattle.fdfa.specs.Inclusion.{comparison, emptiness, count_below}
-use Rattle.slices.specs.Refusals.{Result, given, refused}
 use Rattle.slices.specs.Tables.{tab, rows, sum}
 use Rattle.packed.specs.Layout.{decode, progress_at_value}
 use Rattle.slices.specs.LassoLetters.{period_fault, letters_fault}
@@ -16,7 +17,7 @@ use Rattle.slices.specs.Scans.{first_outside_of}
 use Rattle.packed.specs.Faults.{progress_fault, header_fault, tables_fault, sheet_fault}
 use Rattle.membership.specs.Verdict.{lasso_fault, verdict_of}
 use Rattle.cursor.specs.declared.Cursor.{Cursor}
-use Rattle.cursor.specs.Walking.{start_of, next_of, stepped, moved}
+use Rattle.cursor.specs.Walking.{start_of, next_of, stepped}
 use Rattle.boolean.specs.Operations.{complement_bytes, intersection_bytes}
 
 -- The sheets A to E.
@@ -47,14 +48,14 @@ pub data Row : Type 0 where
   played : (u v : List ℕ) → (letters : List ℕ) → Row
 
 -- A call gives a verdict, of which something holds.
-abbrev pub Gives : Result Verdict → (Verdict → Type 0) → Type 0
-Gives (given w) P = P w
-Gives (refused r) P = ⊥
+abbrev pub Gives : Result Verdict Refusal → (Verdict → Type 0) → Type 0
+Gives (Ok w) P = P w
+Gives (Err r) P = ⊥
 
 -- Steps from the cursor pass these letters.
 abbrev pub Plays : Cursor → List ℕ → List ℕ → List ℕ → Type 0
 Plays c u v [] = Unit {0}
-Plays c u v (a ∷ l) = (stepped c u v ≡ moved a (next_of c u v)) × Plays (next_of c u v) u v l
+Plays c u v (a ∷ l) = (stepped c u v ≡ record { letter = Ok a; cursor = next_of c u v }) × Plays (next_of c u v) u v l
 
 -- What a row says of the definitions.
 abbrev pub Holds : Row → Type 0

@@ -1,4 +1,5 @@
 -- What is printed, out of the texts that it is stored by. Assumes nothing.
+use Rattle.std.specs.Prelude.{Result, Ok, Err}
 use mathlib.Core.Path.{◌≡◌, refl, ap, sym}
 use mathlib.Core.Bool.{Bool, true, false}
 use mathlib.Core.List.{List}
@@ -11,8 +12,7 @@ use Rattle.numbers.specs.Digits.{field}
 use Rattle.numbers.specs.Storing.{Stored}
 use Rattle.numbers.proofs.Stores.{stored-then}
 use Rattle.membership.specs.declared.Judgement.{Judgement}
-use Rattle.membership.specs.declared.Judgement.TheVariants as judgement
-use Rattle.membership.specs.Verdict.{says_of}
+use Rattle.membership.specs.Verdict.{judged, says_of}
 use Rattle.console.specs.Printed.{Shows, refusal_text_of}
 use Rattle.console.proofs.Printed.{field-few, shows-as, stored-shows}
 use Rattle.verdict.specs.Text.{title, word, verdict_block, verdict_text_of}
@@ -33,9 +33,9 @@ block-stored x a b c d e f =
     (stored-then _ _ (stored-then _ _ (stored-then _ _ (stored-then _ _ (stored-then _ _ a b) c) d) e) f)
 
 -- all of the text, answer by answer
-pub given-shown : {answer : Judgement} {accepted : Bool} {i j state end : ℕ} {old new : List ℕ} {r : ℕ} → answer ≡ judgement.Given accepted i j state end → 128 ≤ length old
-    → Stored old 0 (verdict_block (record { accepted = accepted; i = i; j = j; state = state; end = end })) new r × (r ≤ 128) → Shows (verdict_text_of (says_of answer)) old new r
-given-shown e h s = shows-as (ap (λ (x : Judgement). verdict_text_of (says_of x)) (sym e)) (stored-shows {room = 128} s.0 s.1 h)
+pub given-shown : {answer : Result Judgement Refusal} {a : Judgement} {old new : List ℕ} {r : ℕ} → answer ≡ Ok a → 128 ≤ length old
+    → Stored old 0 (verdict_block (judged a)) new r × (r ≤ 128) → Shows (verdict_text_of (says_of answer)) old new r
+given-shown e h s = shows-as (ap (λ (x : Result Judgement Refusal). verdict_text_of (says_of x)) (sym e)) (stored-shows {room = 128} s.0 s.1 h)
 
-pub refused-shown : {answer : Judgement} {x : Refusal} {old new : List ℕ} {r : ℕ} → answer ≡ judgement.Refused x → Shows (refusal_text_of x) old new r → Shows (verdict_text_of (says_of answer)) old new r
-refused-shown e s = shows-as (ap (λ (x : Judgement). verdict_text_of (says_of x)) (sym e)) s
+pub refused-shown : {answer : Result Judgement Refusal} {x : Refusal} {old new : List ℕ} {r : ℕ} → answer ≡ Err x → Shows (refusal_text_of x) old new r → Shows (verdict_text_of (says_of answer)) old new r
+refused-shown e s = shows-as (ap (λ (x : Result Judgement Refusal). verdict_text_of (says_of x)) (sym e)) s

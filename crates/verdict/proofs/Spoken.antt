@@ -1,4 +1,5 @@
 -- What is said on standard error, out of the texts that it is stored by. Assumes nothing.
+use Rattle.std.specs.Prelude.{Result, Ok, Err}
 use mathlib.Core.Path.{◌≡◌, ap, sym, ◌∙◌}
 use mathlib.Core.Bool.{Bool, true, false, cond}
 use mathlib.Core.List.{List, []}
@@ -12,8 +13,7 @@ use Rattle.numbers.specs.Digits.{field}
 use Rattle.numbers.specs.Storing.{Stored}
 use Rattle.numbers.proofs.Stores.{stored-then, stored-as}
 use Rattle.membership.specs.declared.Judgement.{Judgement}
-use Rattle.membership.specs.declared.Judgement.TheVariants as judgement
-use Rattle.membership.specs.Verdict.{says_of}
+use Rattle.membership.specs.Verdict.{judged, says_of}
 use Rattle.console.specs.Printed.{Shows}
 use Rattle.wording.specs.Words.{File, show_words_of}
 use Rattle.console.proofs.Printed.{field-few, shows-none, shows-as, stored-shows}
@@ -54,13 +54,13 @@ module _ (explain : Bool) (name : List ℕ) (x : Verdict) where
       (stored-shows {room = 4608} (stored-then (wait_words name x.accepted x.i x.state) (end_words x.accepted x.j x.end) a.0 b.0) (omega (arith, a.1, b.1)) h)
 
 -- whatever was answered
-module _ (explain : Bool) (answer : Judgement) (one two : File) {old new : List ℕ} {n : ℕ} where
-  pub said-given : {accepted : Bool} {i j state end : ℕ} → answer ≡ judgement.Given accepted i j state end
-      → Shows (cond explain (verdict_words one.name (record { accepted = accepted; i = i; j = j; state = state; end = end })) []) old new n → Shows (said_of explain one two (says_of answer)) old new n
-  said-given e s = shows-as (ap (λ (x : Judgement). said_of explain one two (says_of x)) (sym e)) s
+module _ (explain : Bool) (answer : Result Judgement Refusal) (one two : File) {old new : List ℕ} {n : ℕ} where
+  pub said-given : {a : Judgement} → answer ≡ Ok a → Shows (cond explain (verdict_words one.name (judged a)) []) old new n
+      → Shows (said_of explain one two (says_of answer)) old new n
+  said-given e s = shows-as (ap (λ (x : Result Judgement Refusal). said_of explain one two (says_of x)) (sym e)) s
 
-  pub said-refused : {q : Refusal} {x : Bool} {m : ℕ} → answer ≡ judgement.Refused q → x ≡ one.lined → m ≡ openings two.held
+  pub said-refused : {q : Refusal} {x : Bool} {m : ℕ} → answer ≡ Err q → x ≡ one.lined → m ≡ openings two.held
       → Shows (show_words_of (bytes "verdict") (record { name = one.name; held = one.held; lined = x }) two m q) old new n → Shows (said_of explain one two (says_of answer)) old new n
   said-refused {q} e d f s =
       shows-as
-      ((λ i. show_words_of (bytes "verdict") (record { name = one.name; held = one.held; lined = d i }) two (f i) q) ∙ ap (λ (x : Judgement). said_of explain one two (says_of x)) (sym e)) s
+      ((λ i. show_words_of (bytes "verdict") (record { name = one.name; held = one.held; lined = d i }) two (f i) q) ∙ ap (λ (x : Result Judgement Refusal). said_of explain one two (says_of x)) (sym e)) s

@@ -1,8 +1,8 @@
 -- What is said on standard error, for people: a refusal in words and, where it is asked for, why a show is accepted or
 -- rejected. Assumes nothing.
-use Rattle.std.specs.Prelude.{Bool, true, false, cond, List, [], ◌++◌, ℕ}
+use Rattle.slices.specs.declared.Refusal.{Refusal}
+use Rattle.std.specs.Prelude.{Bool, true, false, cond, List, [], ◌++◌, ℕ, Result, Ok, Err}
 use Prim.Native.Char.{code}
-use Rattle.slices.specs.Refusals.{Result, given, refused}
 use Rattle.slices.specs.Texts.{bytes}
 use Rattle.fdfa.specs.Acceptance.{Verdict}
 use Rattle.numbers.specs.Digits.{field}
@@ -34,9 +34,9 @@ end_words accepted j end =
 abbrev pub verdict_words : List ℕ → Verdict → List ℕ
 verdict_words name x = wait_words name x.accepted x.i x.state ++ end_words x.accepted x.j x.end
 
-abbrev pub said_of : Bool → File → File → Result Verdict → List ℕ
-said_of explain one two (given x) = cond explain (verdict_words one.name x) []
-said_of explain one two (refused r) = show_words_of (bytes "verdict") one two (openings two.held) r
+abbrev pub said_of : Bool → File → File → Result Verdict Refusal → List ℕ
+said_of explain one two (Ok x) = cond explain (verdict_words one.name x) []
+said_of explain one two (Err r) = show_words_of (bytes "verdict") one two (openings two.held) r
 
 -- The sheet's file, which has lines or not by its form, and the show's, which is text.
 abbrev pub sheet_file : Bool → List ℕ → List ℕ → File

@@ -1,7 +1,7 @@
 -- What the verdict program prints. Assumes nothing.
-use Rattle.std.specs.Prelude.{Bool, true, false, List, ◌++◌, ℕ}
+use Rattle.slices.specs.declared.Refusal.{Refusal}
+use Rattle.std.specs.Prelude.{Bool, true, false, List, ◌++◌, ℕ, Result, Ok, Err}
 use Prim.Native.Char.{code}
-use Rattle.slices.specs.Refusals.{Result, given, refused}
 use Rattle.slices.specs.Texts.{bytes}
 use Rattle.fdfa.specs.Acceptance.{Verdict}
 use Rattle.numbers.specs.Digits.{field}
@@ -22,9 +22,9 @@ verdict_block x =
     ++ field x.end (code "\n")
 
 -- The block, or the refusal.
-abbrev pub verdict_text_of : Result Verdict → List ℕ
-verdict_text_of (given x) = verdict_block x
-verdict_text_of (refused r) = refusal_text_of r
+abbrev pub verdict_text_of : Result Verdict Refusal → List ℕ
+verdict_text_of (Ok x) = verdict_block x
+verdict_text_of (Err r) = refusal_text_of r
 
 -- What is printed for the bytes that came of two files, the sheet in any form or packed only.
 abbrev pub program_text : Bool → List ℕ → List ℕ → List ℕ

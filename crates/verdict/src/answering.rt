@@ -10,6 +10,7 @@ use crate::text::verdict_text;
 use membership::Judgement;
 use sheet_forms::{form_in, is_text};
 use show_files::count_openings;
+use slices::Refusal;
 use verdict_files::judge_files;
 use wording::show_words;
 
@@ -27,7 +28,7 @@ pub struct Printed {
 fn put_message(
     any: bool,
     explain: bool,
-    answer: Judgement,
+    answer: Result<Judgement, Refusal>,
     one: &[u8],
     sheet: &[u8],
     two: &[u8],
@@ -41,14 +42,8 @@ fn put_message(
         out.old out.new result }
 {
     match answer {
-        Judgement::Given {
-            accepted,
-            i,
-            j,
-            state,
-            end,
-        } => put_judged(explain, one, accepted, i, j, state, end, out),
-        Judgement::Refused(r) => {
+        Ok(judgement) => put_judged(explain, one, judgement, out),
+        Err(r) => {
             let lined = is_text(form_in(any, sheet));
             let openings = count_openings(show);
             show_words(b"verdict", one, sheet, lined, two, show, openings, r, out)

@@ -70,18 +70,13 @@ fn judge_named(rt: &HostRuntime, explain: bool, i: usize, j: usize) {
 }
 
 fn main(rt: HostRuntime) {
-    let asked = console::arguments(&rt);
-    if asked.usage {
-        usage(&rt);
-        return;
+    match console::arguments(&rt) {
+        Some(asked) if asked.names == 0 => {
+            judge(&rt, false, asked.explain, b"first.sheet", b"show.txt");
+        }
+        Some(asked) if asked.names == 2 => {
+            judge_named(&rt, asked.explain, asked.first, asked.second);
+        }
+        _ => usage(&rt),
     }
-    if asked.names == 0 {
-        judge(&rt, false, asked.explain, b"first.sheet", b"show.txt");
-        return;
-    }
-    if asked.names == 2 {
-        judge_named(&rt, asked.explain, asked.first, asked.second);
-        return;
-    }
-    usage(&rt);
 }

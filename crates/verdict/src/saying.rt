@@ -1,10 +1,12 @@
 // Why a show is accepted or rejected, in words, made in a lent slice.
 ghost use Rattle.std.specs.Prelude.{◌+◌, ◌≤◌, length, cond, []};
 ghost use Rattle.numbers.specs.Storing.{Stored};
+ghost use Rattle.membership.specs.Verdict.{judged};
 ghost use Rattle.console.specs.Printed.{Shows};
 ghost use Rattle.verdict.specs.Said.{start_words, mark_words, wait_words, end_words, verdict_words};
 
 use format::put_literal;
+use membership::Judgement;
 use numbers::put_field;
 
 // The words before the first number.
@@ -59,25 +61,13 @@ fn put_end(accepted: bool, j: usize, end: usize, out: &mut [u8], at: usize) -> u
 }
 
 // All of it, where it is asked for.
-pub fn put_judged(
-    explain: bool,
-    name: &[u8],
-    accepted: bool,
-    i: usize,
-    j: usize,
-    state: usize,
-    end: usize,
-    out: &mut [u8],
-) -> usize
+pub fn put_judged(explain: bool, name: &[u8], judgement: Judgement, out: &mut [u8]) -> usize
     requires { (length name.now ≤ 4096) × (4608 ≤ length out.old) }
-    ensures { Shows
-        (cond explain
-        (verdict_words name.now (record { accepted = accepted; i = i; j = j; state = state; end = end })) [])
-        out.old out.new result }
+    ensures { Shows (cond explain (verdict_words name.now (judged judgement)) []) out.old out.new result }
 {
     if !explain {
         return 0;
     }
-    let at = put_wait(name, accepted, i, state, out);
-    put_end(accepted, j, end, out, at)
+    let at = put_wait(name, judgement.accepted, judgement.i, judgement.state, out);
+    put_end(judgement.accepted, judgement.j, judgement.end, out, at)
 }

@@ -1,5 +1,7 @@
 -- What the code answers is what is judged of the files: of the sheet that the first one is, and of their lengths; and of a packed sheet, without
 -- names, it is the verdict on its bytes. Assumes nothing.
+use Rattle.std.specs.Prelude.{Result, Ok, Err}
+use Rattle.slices.specs.Refusals.{fault_in}
 use mathlib.Core.Path.{◌≡◌, refl, ap, sym, ◌∙◌}
 use mathlib.Core.Bool.{Bool, false}
 use mathlib.Core.List.{List}
@@ -7,31 +9,26 @@ use Prim.Native.Nat.{ℕ, ◌≤◌}
 use lib.ListN.{length}
 use Rattle.slices.specs.declared.Part.TheVariants.{First}
 use Rattle.slices.specs.declared.Refusal.{Refusal}
-use Rattle.slices.specs.Refusals.{Fault, sound, fault, Result, given, refused, unless}
+use Rattle.slices.specs.Refusals.{Fault, sound, fault, unless}
 use Rattle.fdfa.specs.Acceptance.{Verdict}
 use Rattle.packed.specs.Faults.{sheet_fault}
-use Rattle.console.specs.declared.Length.{Length}
-use Rattle.console.specs.declared.Length.TheVariants as length-of
-use Rattle.console.specs.Files.{lengths_fault, after, says_of}
+use Rattle.console.specs.Files.{lengths_fault, after}
 use Rattle.console.proofs.Lengths.{too_long, short-enough, lengths-good}
 use Rattle.verdict_files.specs.Judged.{file_verdict, of_sheet, sheet_of, judged}
 use Rattle.verdict_files.proofs.Files.{sheet-refused}
 
 -- the sheet
-module _ (x : Result (List ℕ)) (t : List ℕ) where
-  pub sheet-unread : {q : Refusal} → x ≡ refused q → refused q ≡ of_sheet x t
-  sheet-unread e = ap (λ (y : Result (List ℕ)). of_sheet y t) (sym e)
-
-  pub sheet-read : {b : List ℕ} {v : Result Verdict} → x ≡ given b → v ≡ file_verdict b t 4096 4096 → v ≡ of_sheet x t
-  sheet-read e d = d ∙ ap (λ (y : Result (List ℕ)). of_sheet y t) (sym e)
+pub sheet-read : (x : Result (List ℕ) Refusal) (t : List ℕ) {b : List ℕ} {v : Result Verdict Refusal} → x ≡ Ok b → v ≡ file_verdict b t 4096 4096
+    → v ≡ of_sheet x t
+sheet-read x t e d = d ∙ ap (λ (y : Result (List ℕ) Refusal). of_sheet y t) (sym e)
 
 -- the lengths
-module _ (any : Bool) (b t : List ℕ) {l : Length} (h : says_of l ≡ lengths_fault (length b) (length t)) where
-  pub length-refused : {q : Refusal} → l ≡ length-of.Refused q → refused q ≡ judged any b t
+module _ (any : Bool) (b t : List ℕ) {l : Result Unit Refusal} (h : fault_in l ≡ lengths_fault (length b) (length t)) where
+  pub length-refused : {q : Refusal} → l ≡ Err q → Err q ≡ judged any b t
   unfolding judged
   length-refused e = sym (too_long (of_sheet (sheet_of any b) t) h e)
 
-  pub length-good : {v : Result Verdict} → l ≡ length-of.Good → v ≡ of_sheet (sheet_of any b) t → v ≡ judged any b t
+  pub length-good : {v : Result Verdict Refusal} → l ≡ Ok tt → v ≡ of_sheet (sheet_of any b) t → v ≡ judged any b t
   unfolding judged
   length-good e d = d ∙ sym (short-enough (of_sheet (sheet_of any b) t) h e)
 

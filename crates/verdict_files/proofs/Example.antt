@@ -1,4 +1,5 @@
--- What the verdict program is refused for, in its order: the sheet, the text with part second, the verdict's own 9.
+-- What the verdict program is refused for, in its order: the sheet, the text with part second, the verdict's own of a scene that the sheet has not.
+use Rattle.slices.specs.declared.Reason.TheVariants.{SheetLength, EmptyLoop, UnknownLetter, OffLayout}
 use mathlib.Core.Path.{◌≡◌, refl}
 use mathlib.Core.Bool.{false}
 use mathlib.Core.List.{List, [], ◌∷◌}
@@ -28,8 +29,8 @@ says sheet text = fault_in (judged false sheet (bytes text))
 
 -- a bad sheet before no text; no text; no loop line; a scene above 31; a scene that B has not, of the opening before the loop's; of the loop; none
 pub refusals :
-    (says (2 ∷ []) "" ≡ fault_of 1 First 1) × (says b "" ≡ fault_of 11 Second 0) × (says b "part scene\n" ≡ fault_of 8 Second 11)
-    × (says b "part scene\nloop 32\n" ≡ fault_of 9 Second 16) × (says b "part scene\nopening 2\nloop 3\n" ≡ fault_of 9 Opening 0)
-    × (says b "part scene\nopening 1\nloop 0\nloop 3\n" ≡ fault_of 9 Loop 1) × (says b "part scene\nopening 1\nloop 0\n" ≡ sound)
+    (says (2 ∷ []) "" ≡ fault_of SheetLength First 1) × (says b "" ≡ fault_of OffLayout Second 0) × (says b "part scene\n" ≡ fault_of EmptyLoop Second 11)
+    × (says b "part scene\nloop 32\n" ≡ fault_of UnknownLetter Second 16) × (says b "part scene\nopening 2\nloop 3\n" ≡ fault_of UnknownLetter Opening 0)
+    × (says b "part scene\nopening 1\nloop 0\nloop 3\n" ≡ fault_of UnknownLetter Loop 1) × (says b "part scene\nopening 1\nloop 0\n" ≡ sound)
 unfolding judged file_verdict words_of reading seq each labelled repeated repeats least number_at_value run_of value_of first_outside_of letters_fault period_fault sheet_fault header_fault tables_fault progress_fault progress_at_value sum
 refusals = (refl, refl, refl, refl, refl, refl, refl)

@@ -1,12 +1,13 @@
 -- The verdict on a lasso that is given as text: the text after the sheet, then the verdict's own refusals; and on the text of a lasso it is the
 -- verdict on that lasso. Assumes nothing.
+use Rattle.std.specs.Prelude.{Err}
 use mathlib.Core.Path.{◌≡◌, ap, ap₂, sym, ◌∙◌}
 use mathlib.Core.List.{List}
 use Prim.Native.Nat.{ℕ, ◌≤◌}
 use lib.ListN.{length}
 use Rattle.slices.specs.declared.Part.TheVariants.{First}
 use Rattle.slices.specs.declared.Refusal.{Refusal}
-use Rattle.slices.specs.Refusals.{Fault, sound, fault, ◌then◌, refused, unless}
+use Rattle.slices.specs.Refusals.{Fault, sound, fault, ◌then◌, unless}
 use Rattle.slices.proofs.Refusals.{passed, failed}
 use Rattle.fdfa.specs.Family.{Words}
 use Rattle.fdfa.specs.Acceptance.{verdict}
@@ -21,12 +22,12 @@ use Rattle.verdict_files.specs.Judged.{words_fault, file_verdict}
 
 module _ (b t : List ℕ) (o p : ℕ) where
   -- the sheet is refused first
-  pub sheet-refused : {r : Refusal} → sheet_fault First b ≡ fault r → file_verdict b t o p ≡ refused r
+  pub sheet-refused : {r : Refusal} → sheet_fault First b ≡ fault r → file_verdict b t o p ≡ Err r
   unfolding file_verdict
   sheet-refused e = ap (λ (f : Fault). unless f (verdict (decode b) (words_in (shown t)).prefix (words_in (shown t)).period)) (failed _ e)
 
   -- then the text, or its room
-  pub text-refused : {r : Refusal} → sheet_fault First b ≡ sound → read_fault (shown t) o p ≡ fault r → file_verdict b t o p ≡ refused r
+  pub text-refused : {r : Refusal} → sheet_fault First b ≡ sound → read_fault (shown t) o p ≡ fault r → file_verdict b t o p ≡ Err r
   unfolding file_verdict
   text-refused g e =
       ap (λ (f : Fault). unless f (verdict (decode b) (words_in (shown t)).prefix (words_in (shown t)).period)) (passed _ g ∙ failed _ e)

@@ -8,61 +8,49 @@ ghost use Rattle.packed.specs.Faults.{sheet_fault};
 ghost use Rattle.membership.specs.Verdict.{says_of};
 ghost use Rattle.verdict_files.specs.Judged.{file_verdict, of_sheet, sheet_of, judged};
 
-use console::Length;
-use lasso_text::Lengths;
 use membership::Judgement;
-use packed::Validity;
 use sheet_forms::{SHEET, form_in, pack};
 use show_files::SCENES;
-use slices::{Part, Written};
+use slices::{Part, Refusal};
 
 // The verdict on the show of a text, which is read into the slices.
-fn read_and_judge(sheet: &[u8], show: &[u8], opening: &mut [u8], period: &mut [u8]) -> Judgement
+fn read_and_judge(
+    sheet: &[u8],
+    show: &[u8],
+    opening: &mut [u8],
+    period: &mut [u8],
+) -> Result<Judgement, Refusal>
     requires { sheet_fault First sheet.now ≡ sound }
     ensures { says_of result ≡ file_verdict sheet.now show.now (length opening.old)
         (length period.old) }
 {
-    let lengths = lasso_text::read(show, Part::Second, opening, period);
-    match lengths {
-        Lengths::Refused(r) => Judgement::Refused(r),
-        Lengths::Filled(m, n) => membership::verdict(sheet, &opening[..m], &period[..n]),
-    }
+    let lengths = lasso_text::read(show, Part::Second, opening, period)?;
+    membership::verdict(sheet, &opening[..lengths.prefix], &period[..lengths.period])
 }
 
 // The sheet first, then the text.
-fn judge(sheet: &[u8], show: &[u8]) -> Judgement
+fn judge(sheet: &[u8], show: &[u8]) -> Result<Judgement, Refusal>
     ensures { says_of result ≡ file_verdict sheet.now show.now 4096 4096 }
 {
-    let validity = packed::check(sheet, Part::First);
-    match validity {
-        Validity::Refused(r) => Judgement::Refused(r),
-        Validity::Valid(_) => {
-            let mut opening = [0u8; SCENES];
-            let mut period = [0u8; SCENES];
-            read_and_judge(sheet, show, &mut opening, &mut period)
-        }
-    }
+    packed::check(sheet, Part::First)?;
+    let mut opening = [0u8; SCENES];
+    let mut period = [0u8; SCENES];
+    read_and_judge(sheet, show, &mut opening, &mut period)
 }
 
 // The sheet that a file is, then the text.
-fn judge_sheet(any: bool, sheet: &[u8], show: &[u8]) -> Judgement
+fn judge_sheet(any: bool, sheet: &[u8], show: &[u8]) -> Result<Judgement, Refusal>
     ensures { says_of result ≡ of_sheet (sheet_of any sheet.now) show.now }
 {
     let mut bytes = [0u8; SHEET];
-    let answer = pack(form_in(any, sheet), sheet, Part::First, &mut bytes);
-    match answer {
-        Written::Refused(r) => Judgement::Refused(r),
-        Written::Filled(n) => judge(&bytes[..n], show),
-    }
+    let n = pack(form_in(any, sheet), sheet, Part::First, &mut bytes)?;
+    judge(&bytes[..n], show)
 }
 
 // Two files, of which so many bytes came.
-pub fn judge_files(any: bool, sheet: &[u8], show: &[u8]) -> Judgement
+pub fn judge_files(any: bool, sheet: &[u8], show: &[u8]) -> Result<Judgement, Refusal>
     ensures { says_of result ≡ judged any sheet.now show.now }
 {
-    let length = console::check_lengths(sheet.len(), show.len());
-    match length {
-        Length::Refused(r) => Judgement::Refused(r),
-        Length::Good => judge_sheet(any, sheet, show),
-    }
+    console::check_lengths(sheet.len(), show.len())?;
+    judge_sheet(any, sheet, show)
 }

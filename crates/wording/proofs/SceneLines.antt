@@ -6,7 +6,7 @@ use Prim.Native.Nat.{ℕ, ◌+◌, ◌≤◌, ◌<◌}
 use native.Mathlib.Omega.{arith}
 use lib.Dec.{eqb, ltb}
 use lib.ListN.{length}
-use borrow.Author.Tests.{ltb-true, lt-ltb, eq-eqb, ne_eqb}
+use borrow.Author.Tests.{ltb-true, eq-eqb, ne_eqb}
 use Rattle.slices.specs.declared.Refusal.{Refusal}
 use Rattle.slices.proofs.Tests.{and_right}
 use Rattle.numbers.specs.Storing.{Stored}
@@ -14,27 +14,13 @@ use Rattle.numbers.proofs.Stores.{stored-then}
 use Rattle.console.specs.Printed.{Shows}
 use Rattle.console.proofs.Printed.{shows-as, stored-shows}
 use Rattle.wording.specs.declared.Position.{Position}
-use Rattle.wording.specs.Words.{File, line_place, reason, refusal_words_of, show_part_of, is_scene_of, scene_position_of, is_long_of, long_opening, long_loop, long_words, part_words_of, show_words_of}
+use Rattle.wording.specs.Words.{File, line_place, reason_line, refusal_words_of, show_part_of, is_unknown_letter, is_scene_of, scene_position_of, is_long_of, long_opening, long_loop, long_words, part_words_of, show_words_of}
 
--- whether it is one
-module _ (x : Refusal) where
-  pub other-number : (x.number ≡ 9 → ⊥) → false ≡ is_scene_of x
-  other-number h = ap (λ (b : Bool). b && (ltb 0 (show_part_of x.part) && ltb x.place 4096)) (sym (ne_eqb x.number 9 h))
-
-  pub other-part : {k : ℕ} → x.number ≡ 9 → k ≡ show_part_of x.part → k ≡ 0 → false ≡ is_scene_of x
-  other-part e h d =
-      ap (λ (k : ℕ). ltb 0 k && ltb x.place 4096) (sym d ∙ h)
-      ∙ ap (λ (b : Bool). b && (ltb 0 (show_part_of x.part) && ltb x.place 4096)) (sym (eq-eqb x.number 9 e))
-
-  pub by_place : {k : ℕ} → x.number ≡ 9 → k ≡ show_part_of x.part → (k ≡ 0 → ⊥) → ltb x.place 4096 ≡ is_scene_of x
-  by_place {k} e h d =
-      ap (λ (b : Bool). b && ltb x.place 4096) (sym (lt-ltb 0 k (omega (arith, d))) ∙ ap (ltb 0) h)
-      ∙ ap (λ (b : Bool). b && (ltb 0 (show_part_of x.part) && ltb x.place 4096)) (sym (eq-eqb x.number 9 e))
-
-  pub scene-within : is_scene_of x ≡ true → x.place < 4096
-  scene-within e =
-      ltb-true x.place 4096
-      (and_right (ltb 0 (show_part_of x.part)) (ltb x.place 4096) (and_right (eqb x.number 9) (ltb 0 (show_part_of x.part) && ltb x.place 4096) e))
+pub scene-within : (x : Refusal) → is_scene_of x ≡ true → x.place < 4096
+scene-within x e =
+    ltb-true x.place 4096
+    (and_right (ltb 0 (show_part_of x.part)) (ltb x.place 4096)
+    (and_right (is_unknown_letter x.reason) (ltb 0 (show_part_of x.part) && ltb x.place 4096) e))
 
 -- where it stands
 module _ (m : ℕ) (x : Refusal) {k : ℕ} (h : k ≡ show_part_of x.part) where
@@ -54,31 +40,24 @@ pub scene-stored : {old mid new : List ℕ} {at r : ℕ} (name : List ℕ) (q : 
 scene-stored name q h a b = (stored-then name (line_place q) a b.0, omega (arith, a.next, b.1))
 
 module _ (program : List ℕ) (one two : File) (m : ℕ) (x : Refusal) {old new : List ℕ} {r : ℕ} where
-  as-shown : (b : Bool) → is_scene_of x ≡ b → Shows (cond b (two.name ++ line_place (scene_position_of m x) ++ reason x.number) (part_words_of program one two x)) old new r
+  as-shown : (b : Bool) → is_scene_of x ≡ b → Shows (cond b (two.name ++ line_place (scene_position_of m x) ++ reason_line x.reason) (part_words_of program one two x)) old new r
       → Shows (show_words_of program one two m x) old new r
   unfolding show_words_of
   as-shown b e s =
-      shows-as (ap (λ (c : Bool). cond c (two.name ++ line_place (scene_position_of m x) ++ reason x.number) (part_words_of program one two x)) (sym e)) s
+      shows-as (ap (λ (c : Bool). cond c (two.name ++ line_place (scene_position_of m x) ++ reason_line x.reason) (part_words_of program one two x)) (sym e)) s
 
   pub scene-shown : {q : Position} {mid : List ℕ} {at : ℕ} → is_scene_of x ≡ true → q ≡ scene_position_of m x → 4352 ≤ length old
-      → Stored old 0 (two.name ++ line_place q) mid at × (at ≤ 4139) → Stored mid at (reason x.number) new r × (r ≤ at + 112)
+      → Stored old 0 (two.name ++ line_place q) mid at × (at ≤ 4139) → Stored mid at (reason_line x.reason) new r × (r ≤ at + 112)
       → Shows (show_words_of program one two m x) old new r
   scene-shown {q} e d h a b =
       as-shown true e
-      (shows-as (ap (λ (p : Position). two.name ++ line_place p ++ reason x.number) d)
+      (shows-as (ap (λ (p : Position). two.name ++ line_place p ++ reason_line x.reason) d)
       (stored-shows {room = 4352} (stored-then _ _ a.0 b.0) (omega (arith, a.1, b.1)) h))
 
   pub other-shown : is_scene_of x ≡ false → Shows (part_words_of program one two x) old new r → Shows (show_words_of program one two m x) old new r
   other-shown e s = as-shown false e s
 
 -- a part that is too long
-module _ (x : Refusal) where
-  pub no_room : (x.number ≡ 21 → ⊥) → false ≡ is_long_of x
-  no_room h = ap (λ (b : Bool). b && ltb 0 (show_part_of x.part)) (sym (ne_eqb x.number 21 h))
-
-  pub room-part : {k : ℕ} → x.number ≡ 21 → k ≡ show_part_of x.part → ltb 0 k ≡ is_long_of x
-  room-part e h = ap (ltb 0) h ∙ ap (λ (b : Bool). b && ltb 0 (show_part_of x.part)) (sym (eq-eqb x.number 21 e))
-
 module _ (name : List ℕ) (x : Refusal) {k : ℕ} (h : k ≡ show_part_of x.part) {old mid new : List ℕ} {at r : ℕ} (few : length name ≤ 4096) (room : 4352 ≤ length old) (a : Stored old 0 name mid at) where
   as_long : (b : Bool) → eqb k 1 ≡ b → Shows (cond b (name ++ long_opening) (name ++ long_loop)) old new r → Shows (long_words name x) old new r
   as_long b e s = shows-as (ap (λ (c : Bool). cond c (name ++ long_opening) (name ++ long_loop)) (sym e ∙ ap (λ (j : ℕ). eqb j 1) h)) s

@@ -7,14 +7,18 @@ use native.Mathlib.Omega.{arith}
 use lib.Dec.{eqb, ltb}
 use lib.ListN.{length}
 use borrow.Author.Tests.{lt-ltb, le-ltb, eq-eqb, ne_eqb}
+use Rattle.slices.specs.declared.Reason.{Reason}
+use Rattle.slices.specs.declared.Reason.TheVariants.{LettersDiffer}
 use Rattle.slices.specs.declared.Refusal.{Refusal}
+use Rattle.slices.specs.Refusals.{number_of}
 use Rattle.slices.specs.Texts.{bytes}
 use Rattle.numbers.specs.Digits.{field}
 use Rattle.numbers.specs.Storing.{Stored}
 use Rattle.numbers.proofs.Stores.{stored-then, stored-as}
 use Rattle.wording.specs.declared.Position.{Position}
 use Rattle.console.specs.Printed.{Shows}
-use Rattle.wording.specs.Words.{sentence, position_at, File, line_place, byte_place, place_in, spot, file_of_value, culprit, reason, refusal_words_of}
+use Rattle.wording.specs.Words.{sentence, position_at, File, line_place, byte_place, place_in, place_for, spot, file_of_value, culprit, reason_line, refusal_words_of}
+use Rattle.wording.proofs.Sentences.{sentence-short}
 use Rattle.console.proofs.Printed.{field-few, stored-shows}
 
 -- a place
@@ -49,19 +53,17 @@ module _ {old new : List ℕ} {at r : ℕ} (t : List ℕ) (lined : Bool) (p : �
 
 -- the file and the place
 module _ {old mid new : List ℕ} {at r : ℕ} (f : File) (x : Refusal) (few : length f.name ≤ 4096) where
-  by_number : (b : Bool) → eqb x.number 7 ≡ b → Stored old 0 f.name mid at → Stored mid at (cond b (bytes ":") (place_in f.held f.lined x.place)) new r
-      → r ≤ at + 43 → Stored old 0 (spot f x) new r × (r ≤ 4139)
-  by_number b e s t l = (
-    stored-as (ap (λ (c : Bool). f.name ++ cond c (bytes ":") (place_in f.held f.lined x.place)) (sym e)) (stored-then f.name _ s t),
-    omega (arith, s.next),
-  )
+  pub spot-whole : x.reason ≡ LettersDiffer → Stored old 0 f.name mid at → Stored mid at (bytes ":") new r → Stored old 0 (spot f x) new r × (r ≤ 4139)
+  spot-whole e s t =
+      (stored-as (ap (λ (q : Reason). f.name ++ place_for q f x.place) (sym e)) (stored-then f.name _ s t), omega (arith, s.next, t.next))
 
-  pub spot-whole : x.number ≡ 7 → Stored old 0 f.name mid at → Stored mid at (bytes ":") new r → Stored old 0 (spot f x) new r × (r ≤ 4139)
-  spot-whole e s t = by_number true (eq-eqb x.number 7 e) s t (omega (arith, t.next))
-
-  pub spot-place : (x.number ≡ 7 → ⊥) → Stored old 0 f.name mid at → Stored mid at (place_in f.held f.lined x.place) new r × (r ≤ at + 43)
+  pub spot-place : (x.reason ≡ LettersDiffer → ⊥) → Stored old 0 f.name mid at → Stored mid at (place_in f.held f.lined x.place) new r × (r ≤ at + 43)
       → Stored old 0 (spot f x) new r × (r ≤ 4139)
-  spot-place e s t = by_number false (ne_eqb x.number 7 e) s t.0 t.1
+  spot-place e s t = (stored-as (ap (f.name ++◌) (elsewhere x.reason e)) (stored-then f.name _ s t.0), omega (arith, s.next, t.1))
+    where
+      elsewhere : (q : Reason) → (q ≡ LettersDiffer → ⊥) → place_in f.held f.lined x.place ≡ place_for q f x.place
+      elsewhere LettersDiffer h = absurd (h refl)
+      elsewhere _ h = refl
 
 -- which file
 abbrev Named : List ℕ → List ℕ → ℕ → List ℕ → Type 0
@@ -87,15 +89,16 @@ module _ {old new : List ℕ} {r k : ℕ} (program : List ℕ) (one two : File) 
   named-program e d s = as-named false false (ne_eqb k 1 e) (ne_eqb k 2 d) s
 
 -- the reason
-pub reason-stored : {old o₁ o₂ o₃ o₄ new : List ℕ} {at p₁ p₂ p₃ p₄ r w : ℕ} (n : ℕ) → w ≡ n → n < 256 → Stored old at (bytes " refusal ") o₁ p₁ → Stored o₁ p₁ (field w 58) o₂ p₂
-    → Stored o₂ p₂ (bytes " ") o₃ p₃ → Stored o₃ p₃ (sentence n) o₄ p₄ × (p₄ ≤ p₃ + 80) → Stored o₄ p₄ (bytes "\n") new r → Stored old at (reason n) new r × (r ≤ at + 112)
-reason-stored {w = w} n i h a b c d e = (
-  stored-as (λ k. bytes " refusal " ++ field (i k) 58 ++ bytes " " ++ sentence n ++ bytes "\n")
-      (stored-then _ _ (stored-then _ _ (stored-then _ _ (stored-then _ _ a b) c) d.0) e),
-  omega (arith, a.next, b.next, c.next, d.1, e.next, field-few w 58 (omega arith)),
+pub reason-stored : {old o₁ o₂ o₃ o₄ new t : List ℕ} {at p₁ p₂ p₃ p₄ r w : ℕ} (q : Reason) → w ≡ number_of q → w < 256 → t ≡ sentence q
+    → Stored old at (bytes " refusal ") o₁ p₁ → Stored o₁ p₁ (field w 58) o₂ p₂ → Stored o₂ p₂ (bytes " ") o₃ p₃ → Stored o₃ p₃ t o₄ p₄
+    → Stored o₄ p₄ (bytes "\n") new r → Stored old at (reason_line q) new r × (r ≤ at + 112)
+reason-stored {t = t} {w = w} q i h j a b c d e = (
+  stored-as (λ k. bytes " refusal " ++ field (i k) 58 ++ bytes " " ++ j k ++ bytes "\n")
+      (stored-then _ _ (stored-then _ _ (stored-then _ _ (stored-then _ _ a b) c) d) e),
+  omega (arith, a.next, b.next, c.next, d.next, e.next, ap length j, sentence-short q, field-few w 58 (omega arith)),
 )
 
 pub words-shown : {old mid new : List ℕ} {at r : ℕ} (program : List ℕ) (one two : File) (x : Refusal) → 4352 ≤ length old
-    → Stored old 0 (culprit program one two x) mid at × (at ≤ 4139) → Stored mid at (reason x.number) new r × (r ≤ at + 112) → Shows (refusal_words_of program one two x) old new r
+    → Stored old 0 (culprit program one two x) mid at × (at ≤ 4139) → Stored mid at (reason_line x.reason) new r × (r ≤ at + 112) → Shows (refusal_words_of program one two x) old new r
 unfolding refusal_words_of
 words-shown program one two x h a b = stored-shows {room = 4352} (stored-then _ _ a.0 b.0) (omega (arith, a.1, b.1)) h

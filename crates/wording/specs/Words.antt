@@ -1,56 +1,46 @@
--- A refusal in words, for people: where it is, its number, and the sentence of that number. Assumes nothing.
-use Rattle.std.specs.Prelude.{Bool, cond, not, ◌&&◌, ◌||◌, List, [], ◌∷◌, ◌++◌, ℕ, zero, suc, ◌+◌, eqb, ltb, length}
-use Rattle.std.specs.Prelude.{get_or}
+-- A refusal in words, for people: where it is, its number, and the sentence of its reason. Assumes nothing.
+use Rattle.std.specs.Prelude.{Bool, true, false, cond, not, ◌&&◌, ◌||◌, List, ◌++◌, ℕ, zero, suc, ◌+◌, eqb, ltb}
+use Rattle.std.specs.Prelude.{length, get_or}
 use Prim.Native.Char.{code}
-use Prim.Native.String.{String}
 use Rattle.slices.specs.declared.Part.{Part}
 use Rattle.slices.specs.declared.Part.TheVariants.{First, Second, Opening, Loop, Out, Work, Cursor, Seconds}
+use Rattle.slices.specs.declared.Reason.{Reason}
+use Rattle.slices.specs.declared.Reason.TheVariants.{SheetLength, LetterCount, StateCount, ProgressSize, NextState}
+use Rattle.slices.specs.declared.Reason.TheVariants.{MarkByte, LettersDiffer, EmptyLoop, UnknownLetter, UnknownLevel}
+use Rattle.slices.specs.declared.Reason.TheVariants.{OffLayout, OutOfTurn, NoneAccepting, SecondsRange, ProductSize}
+use Rattle.slices.specs.declared.Reason.TheVariants.{TooLittleRoom, TooFewCells, FoundTooLong, CursorPastEnd}
+use Rattle.slices.specs.declared.Reason.TheVariants.{FileTooLong, PartTooLong, CartCount, CartLength}
 use Rattle.slices.specs.declared.Refusal.{Refusal}
+use Rattle.slices.specs.Refusals.{number_of}
 use Rattle.slices.specs.Texts.{bytes}
 use Rattle.numbers.specs.Digits.{field}
 use Rattle.wording.specs.declared.Position.{Position}
 
--- The sentences, by number.
-pub data Row : Type 0 where
-  row : ℕ → String → Row
-
-abbrev pub sentences : List Row
-sentences =
-    row 1 "the packed sheet is too short or too long"
-    ∷ row 2 "the number of scenes is not from 1 to 32"
-    ∷ row 3 "the number of places is not from 1 to 32, or 16 in a drawn automaton"
-    ∷ row 4 "the number of loop places is not from 1 to 32"
-    ∷ row 5 "this place is not below the number of places of its automaton"
-    ∷ row 6 "this mark is neither 0 nor 1"
-    ∷ row 7 "the two sheets have different numbers of scenes"
-    ∷ row 8 "the show has no loop"
-    ∷ row 9 "this scene is not below the number of scenes"
-    ∷ row 10 "the level is neither 3 nor 4"
-    ∷ row 11 "the text departs from its layout here, or ends too early"
-    ∷ row 12 "another scene, place or loop place is due here"
-    ∷ row 13 "the automaton has no accepting place"
-    ∷ row 14 "the seconds are not from 1 to 999"
-    ∷ row 20 "the result has more than 32 places or loop places"
-    ∷ row 21 "there is too little room for the result"
-    ∷ row 22 "the comparison needs more work cells than there are"
-    ∷ row 23 "the show found is longer than the room for it"
-    ∷ row 24 "the cursor stands past the end of its part"
-    ∷ row 25 "the file has more than 65,536 bytes"
-    ∷ row 26 "this part of the show has more than 65,536 scenes"
-    ∷ row 27 "the cart has no show, or more than 64"
-    ∷ row 28 "the cart is too short or too long"
-    ∷ []
-
-abbrev pub other : List ℕ
-other = bytes "no refusal has this number"
-
-abbrev pub look_up : List Row → ℕ → List ℕ
-look_up [] n = other
-look_up (row k text ∷ rest) n = cond (eqb n k) (bytes text) (look_up rest n)
-
--- Why a number is refused.
-unfoldable pub sentence : ℕ → List ℕ
-sentence n = look_up sentences n
+-- Why something is refused.
+unfoldable pub sentence : Reason → List ℕ
+sentence SheetLength = bytes "the packed sheet is too short or too long"
+sentence LetterCount = bytes "the number of scenes is not from 1 to 32"
+sentence StateCount = bytes "the number of places is not from 1 to 32, or 16 in a drawn automaton"
+sentence ProgressSize = bytes "the number of loop places is not from 1 to 32"
+sentence NextState = bytes "this place is not below the number of places of its automaton"
+sentence MarkByte = bytes "this mark is neither 0 nor 1"
+sentence LettersDiffer = bytes "the two sheets have different numbers of scenes"
+sentence EmptyLoop = bytes "the show has no loop"
+sentence UnknownLetter = bytes "this scene is not below the number of scenes"
+sentence UnknownLevel = bytes "the level is neither 3 nor 4"
+sentence OffLayout = bytes "the text departs from its layout here, or ends too early"
+sentence OutOfTurn = bytes "another scene, place or loop place is due here"
+sentence NoneAccepting = bytes "the automaton has no accepting place"
+sentence SecondsRange = bytes "the seconds are not from 1 to 999"
+sentence ProductSize = bytes "the result has more than 32 places or loop places"
+sentence TooLittleRoom = bytes "there is too little room for the result"
+sentence TooFewCells = bytes "the comparison needs more work cells than there are"
+sentence FoundTooLong = bytes "the show found is longer than the room for it"
+sentence CursorPastEnd = bytes "the cursor stands past the end of its part"
+sentence FileTooLong = bytes "the file has more than 65,536 bytes"
+sentence PartTooLong = bytes "this part of the show has more than 65,536 scenes"
+sentence CartCount = bytes "the cart has no show, or more than 64"
+sentence CartLength = bytes "the cart is too short or too long"
 
 -- The line and the column of a place, both from 1: a line feed ends its line.
 abbrev pub beyond : Position → ℕ → Position
@@ -79,8 +69,12 @@ abbrev pub place_in : List ℕ → Bool → ℕ → List ℕ
 place_in t lined p = cond (not lined || ltb (length t) p) (byte_place p) (line_place (position_at t p))
 
 -- Scene counts that differ are at no one place of the second sheet.
+abbrev pub place_for : Reason → File → ℕ → List ℕ
+place_for LettersDiffer f p = bytes ":"
+place_for _ f p = place_in f.held f.lined p
+
 abbrev pub spot : File → Refusal → List ℕ
-spot f r = f.name ++ cond (eqb r.number 7) (bytes ":") (place_in f.held f.lined r.place)
+spot f r = f.name ++ place_for r.reason f r.place
 
 -- Which file a part is: the first, the second, or none.
 abbrev pub file_of_value : Part → ℕ
@@ -100,11 +94,11 @@ culprit program one two r =
     (program ++ bytes ":"))
 
 -- " refusal NUMBER: sentence" and a line feed
-abbrev pub reason : ℕ → List ℕ
-reason n = bytes " refusal " ++ field n (code ":") ++ bytes " " ++ sentence n ++ bytes "\n"
+abbrev pub reason_line : Reason → List ℕ
+reason_line q = bytes " refusal " ++ field (number_of q) (code ":") ++ bytes " " ++ sentence q ++ bytes "\n"
 
 unfoldable pub refusal_words_of : List ℕ → File → File → Refusal → List ℕ
-refusal_words_of program one two r = culprit program one two r ++ reason r.number
+refusal_words_of program one two r = culprit program one two r ++ reason_line r.reason
 
 -- Which part of a show a refusal speaks of: the opening, the loop, or none.
 abbrev pub show_part_of : Part → ℕ
@@ -117,9 +111,13 @@ show_part_of Work = 0
 show_part_of Cursor = 0
 show_part_of Seconds = 0
 
+abbrev pub is_unknown_letter : Reason → Bool
+is_unknown_letter UnknownLetter = true
+is_unknown_letter _ = false
+
 -- A scene that the sheet has not, of a part of at most 4,096 scenes.
 abbrev pub is_scene_of : Refusal → Bool
-is_scene_of r = eqb r.number 9 && (ltb 0 (show_part_of r.part) && ltb r.place 4096)
+is_scene_of r = is_unknown_letter r.reason && (ltb 0 (show_part_of r.part) && ltb r.place 4096)
 
 -- Where it stands in the show's text: in a line of its own behind the line of names, the m opening lines first.
 abbrev pub scene_position_of : ℕ → Refusal → Position
@@ -127,9 +125,13 @@ scene_position_of m r =
     cond (eqb (show_part_of r.part) 1) (record { line = r.place + 2; column = length (bytes "opening ") + 1 })
     (record { line = m + r.place + 2; column = length (bytes "loop ") + 1 })
 
+abbrev pub is_too_little_room : Reason → Bool
+is_too_little_room TooLittleRoom = true
+is_too_little_room _ = false
+
 -- A part that is longer than the 4,096 scenes that a program takes.
 abbrev pub is_long_of : Refusal → Bool
-is_long_of r = eqb r.number 21 && ltb 0 (show_part_of r.part)
+is_long_of r = is_too_little_room r.reason && ltb 0 (show_part_of r.part)
 
 abbrev pub long_opening : List ℕ
 long_opening = bytes ": refusal 21: the opening has more than 4,096 scenes\n"
@@ -147,5 +149,5 @@ part_words_of program one two r = cond (is_long_of r) (long_words two.name r) (r
 -- For a program whose second file is a show's text with m opening lines.
 unfoldable pub show_words_of : List ℕ → File → File → ℕ → Refusal → List ℕ
 show_words_of program one two m r =
-    cond (is_scene_of r) (two.name ++ line_place (scene_position_of m r) ++ reason r.number)
+    cond (is_scene_of r) (two.name ++ line_place (scene_position_of m r) ++ reason_line r.reason)
     (part_words_of program one two r)

@@ -10,7 +10,7 @@ use crate::Position;
 use crate::reasons::put_reason;
 use crate::words::{put_line, refusal_words};
 use format::put_literal;
-use slices::{Part, Refusal};
+use slices::{Part, Reason, Refusal};
 
 // Which part of a show it is: the opening, the loop, or none.
 fn show_part(part: Part) -> u8
@@ -32,14 +32,7 @@ fn show_part(part: Part) -> u8
 pub fn is_scene(r: Refusal) -> bool
     ensures { result ≡ is_scene_of r }
 {
-    if r.number != 9 {
-        return false;
-    }
-    let part = r.part;
-    if show_part(part) == 0 {
-        return false;
-    }
-    r.place < 4096
+    r.reason == Reason::UnknownLetter && show_part(r.part) > 0 && r.place < 4096
 }
 
 // Where it stands.
@@ -74,11 +67,7 @@ pub fn put_scene(name: &[u8], q: Position, out: &mut [u8]) -> usize
 fn is_long(r: Refusal) -> bool
     ensures { result ≡ is_long_of r }
 {
-    if r.number != 21 {
-        return false;
-    }
-    let part = r.part;
-    show_part(part) > 0
+    r.reason == Reason::TooLittleRoom && show_part(r.part) > 0
 }
 
 // The name of the show's file and what is too long.
@@ -150,7 +139,7 @@ pub fn show_words(
     if is_scene(r) {
         let q = scene_position(openings, r);
         let at = put_scene(two, q, out);
-        return put_reason(r.number, out, at);
+        return put_reason(r.reason, out, at);
     }
     part_words(program, one, first, lined, two, show, r, out)
 }

@@ -10,7 +10,7 @@ use crate::Position;
 use crate::reasons::put_reason;
 use format::put_literal;
 use numbers::put_field;
-use slices::{Part, Refusal};
+use slices::{Part, Reason, Refusal};
 
 // Room for a refusal in words: a name of 4,096 bytes, a place and a sentence.
 pub const WORDS: usize = 4352;
@@ -22,15 +22,13 @@ fn locate(text: &[u8], place: usize) -> Position
 {
     let mut line = 1;
     let mut column = 1;
-    let mut i = 0;
-    while i < place {
-        if text[i] == b'\n' {
+    for &b in &text[..place] {
+        if b == b'\n' {
             line += 1;
             column = 1;
         } else {
             column += 1;
         }
-        i += 1;
     }
     Position { line, column }
 }
@@ -77,7 +75,7 @@ fn put_spot(name: &[u8], text: &[u8], lined: bool, r: Refusal, out: &mut [u8]) -
         × (result ≤ 4139) }
 {
     let named = put_literal(name, out, 0);
-    if r.number == 7 {
+    if r.reason == Reason::LettersDiffer {
         return put_literal(b":", out, named);
     }
     put_place(text, lined, r.place, out, named)
@@ -161,5 +159,5 @@ pub fn refusal_words(
         out.old out.new result }
 {
     let at = put_culprit(program, one, first, lined, two, second, lined2, r, out);
-    put_reason(r.number, out, at)
+    put_reason(r.reason, out, at)
 }

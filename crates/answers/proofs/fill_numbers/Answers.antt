@@ -3,10 +3,10 @@ use Rattle.std.proofs.Common.{rules}
 use Rattle.slices.specs.Tables.{tab}
 use Rattle.answers.proofs.fill_numbers.Goals as goal
 
-pub returns-in-Filled : goal.returns-in-Filled
+pub returns-in-Ok : goal.returns-in-Ok
 unfolding tab
-returns-in-Filled c = search rules
+returns-in-Ok c = search rules
 
-pub returns-in-Refused : goal.returns-in-Refused
+pub returns-in-Err : goal.returns-in-Err
 unfolding tab
-returns-in-Refused c = search rules
+returns-in-Err c = search rules

@@ -1,27 +1,19 @@
--- `answers::put_number` meets its contract. Assumes nothing.
-use mathlib.Core.Path.{◌≡◌, ap, sym, ◌∙◌}
-use Prim.Native.Nat.{ℕ, ◌+◌, ◌/◌, ◌%◌, ◌^◌}
-use native.Mathlib.Omega.{arith}
-use native.Mathlib.Nat.{pow-suc, div-div-eq-div-mul, div-one}
-use native.Mathlib.Numerals.{add-one}
-use Rattle.slices.proofs.Filling.{filling-none, filling-more, filling-all}
+-- `answers::put_number` meets its contract: the bytes are those of the definition. Assumes nothing.
+use mathlib.Core.Path.{◌≡◌, ap, ◌∙◌}
+use mathlib.Core.List.{List, ◌++◌}
+use Prim.Native.Nat.{ℕ}
+use native.Mathlib.Nat.{div-one}
+use lib.ListN.{drop}
+use Rattle.std.specs.Int.{w64, to_le_bytes}
+use Rattle.slices.specs.Filling.{written}
+use Rattle.slices.specs.Tables.{tab}
+use Rattle.answers.specs.Layout.{number_bytes}
 use Rattle.answers.proofs.put_number.Goals as goal
 
--- one byte further
-shifted : (x i : ℕ) → x / 256 ^ i / 256 ≡ x / 256 ^ (i + 1)
-shifted x i = div-div-eq-div-mul x (256 ^ i) 256 ∙ (ap (λ (y : ℕ). x / y) (sym (pow-suc 256 i)) ∙ ap (λ (k : ℕ). x / 256 ^ k) (sym (add-one i)))
-
-pub loop-i-init : goal.loop-i-init
-loop-i-init c = (filling-none _ _ _ c.requires, sym (div-one _))
-
-pub bounds-out-i : goal.bounds-out-i
-bounds-out-i c = let i = c.loop-i.invariant.0 in omega (arith, i.room, i.same, c.loop-i-test.true)
-
-pub loop-i-preserved : goal.loop-i-preserved
-loop-i-preserved c = (
-  filling-more _ c.loop-i.invariant.0 c.loop-i-test.true (ap (λ (y : ℕ). y % 256) c.loop-i.invariant.1),
-  (ap (λ (y : ℕ). y / 256) c.loop-i.invariant.1 ∙ shifted c.args.x c.loop-i.i),
-)
+bytes-are : (x : ℕ) → to_le_bytes w64 x ≡ number_bytes x
+unfolding tab
+bytes-are x = simp div-one
 
 pub returns : goal.returns
-returns c = filling-all c.loop-i.invariant.0 c.loop-i-test.false
+unfolding written tab
+returns c = ap (λ (l : List ℕ). l ++ drop 8 c.args.out.now) (c.copy_from_slice.ensures.after ∙ (c.to_le_bytes.ensures ∙ bytes-are c.args.x))

@@ -5,11 +5,10 @@ use Prim.Native.Nat.{ℕ, ◌*◌, ◌≤◌}
 use native.Mathlib.Omega.{arith}
 use lib.ListN.{length, get_or}
 use Rattle.slices.specs.Filling.{written}
-use Rattle.slices.proofs.Filling.{begun-as, lent_length, begun_more, rows-begin, rows_next}
+use Rattle.slices.proofs.Filling.{begun-as, begun_more, rows-begin, rows_next}
 use Rattle.slices.specs.Tables.{rows}
 use Rattle.slices.proofs.Tables.{length-tab, length-table}
 use Rattle.answers.specs.Layout.{number_bytes, layout}
-use borrow.Author.Rules.{rules}
 use Rattle.answers.proofs.tell.Goals as goal
 
 -- the first k numbers
@@ -26,26 +25,15 @@ all : (ns : List ℕ) (k : ℕ) → k ≤ length ns → length ns ≤ k → firs
 all ns k h l = let e : k ≡ length ns = omega arith in ap (firsts ns) e
 
 pub loop-k-init : goal.loop-k-init
-loop-k-init c = (search rules, rows-begin _ _)
-
-pub slice_bounds-put_number-count : goal.slice_bounds-put_number-count
-slice_bounds-put_number-count c = omega (arith, c.loop-k.invariant.1.same)
-
-pub slice_bounds-put_number-start : goal.slice_bounds-put_number-start
-slice_bounds-put_number-start c = omega (arith, c.loop-k.invariant.1.same)
-
-pub put_number-requires : goal.put_number-requires
-put_number-requires c = omega (arith, lent_length {a = 8 * c.loop-k.k} c.loop-k.invariant.1 (omega arith))
+loop-k-init c = rows-begin _ _
 
 pub loop-k-preserved : goal.loop-k-preserved
 loop-k-preserved c =
-    let ns = c.args.numbers.now in (
-      search rules,
-      begun-as (rows_next (λ k. number_bytes (get_or ns k 0)) c.loop-k.k)
-          (begun_more (number_bytes (get_or ns c.loop-k.k 0)) _ c.loop-k.invariant.1 (firsts-length ns c.loop-k.k) (omega (arith, number-length (get_or ns c.loop-k.k 0))) c.put_number.ensures),
-    )
+    let ns = c.args.numbers.now in
+    begun-as (rows_next (λ k. number_bytes (get_or ns k 0)) c.loop-k.k)
+    (begun_more (number_bytes (get_or ns c.loop-k.k 0)) _ c.loop-k.invariant (firsts-length ns c.loop-k.k) (omega (arith, number-length (get_or ns c.loop-k.k 0))) c.put_number.ensures)
 
 pub returns : goal.returns
 returns c =
     let s = c.args in
-    (refl, c.loop-k.invariant.1.cells ∙ ap (λ (d : List ℕ). written d s.answer.now) (all s.numbers.now c.loop-k.k c.loop-k.invariant.0 c.loop-k-test.false))
+    (refl, c.loop-k.invariant.cells ∙ ap (λ (d : List ℕ). written d s.answer.now) (all s.numbers.now c.loop-k.k (omega arith) (omega arith)))

@@ -1,13 +1,9 @@
--- The loops of `answers::tell`.
-use Prim.Native.Nat.{◌-◌, ◌≤◌}
-use lib.ListN.{length, get_or}
+-- The loop of `answers::tell`.
+use lib.ListN.{get_or}
 use Rattle.slices.proofs.Filling.{Begun}
 use Rattle.slices.specs.Tables.{rows}
 use Rattle.answers.specs.Layout.{number_bytes}
 use Rattle.answers.proofs.tell.Given as goal
 
 abbrev pub invariant-loop-k : goal.invariant-loop-k
-invariant-loop-k l = (l.k ≤ length l.numbers) × Begun (rows l.k (λ i. number_bytes (get_or l.numbers i 0))) l.initial.answer l.answer
-
-abbrev pub decreases-loop-k : goal.decreases-loop-k
-decreases-loop-k l = length l.numbers - l.k
+invariant-loop-k l = Begun (rows l.k (λ i. number_bytes (get_or l.numbers i 0))) l.initial.answer l.answer

@@ -1,4 +1,5 @@
 -- The answers of `boolean::fill_product`. Assumes nothing.
+use Rattle.slices.specs.declared.Reason.TheVariants.{TooLittleRoom}
 use mathlib.Core.Path.{◌≡◌, ap, sym, ◌∙◌}
 use mathlib.Core.List.{List}
 use Prim.Native.Nat.{ℕ}
@@ -25,8 +26,8 @@ returns-then-out-needed c =
     let s = c.args in
     let bytes = product_bytes s.op s.first.now s.second.now in
     let needed = length-is s.op c.requires.0.alike c.requires.1 c.product_length-needed.ensures in
-    let f = when-fails 21 Out (length bytes) (lt-ltb (length s.out.now) (length bytes) (omega (arith, needed, c.if-out-needed.true))) in
-    fill-refused bytes s.out.now (f ∙ ((λ i. fault (record { number = 21; part = Out; place = sym needed i })) ∙ ap fault (sym c.refuse.ensures)))
+    let f = when-fails TooLittleRoom Out (length bytes) (lt-ltb (length s.out.now) (length bytes) (omega (arith, needed, c.if-out-needed.true))) in
+    fill-refused bytes s.out.now (f ∙ ((λ i. fault (record { reason = TooLittleRoom; part = Out; place = sym needed i })) ∙ ap fault (sym c.refuse.ensures)))
 
 pub write_product-requires-clause-second_in_bounds : goal.write_product-requires-clause-second_in_bounds
 write_product-requires-clause-second_in_bounds c =
@@ -36,4 +37,4 @@ pub returns : goal.returns
 returns c =
     let s = c.args in
     let needed = length-is s.op c.requires.0.alike c.requires.1 c.product_length-needed.ensures in
-    fill-given _ (when-passes 21 Out _ (le-ltb _ _ (omega (arith, needed, c.if-out-needed.false)))) needed c.write_product.ensures
+    fill-given _ (when-passes TooLittleRoom Out _ (le-ltb _ _ (omega (arith, needed, c.if-out-needed.false)))) needed c.write_product.ensures

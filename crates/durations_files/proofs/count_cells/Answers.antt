@@ -1,9 +1,11 @@
 -- `durations_files::count_cells` meets its contract. Assumes nothing.
-use Rattle.durations_files.proofs.Cells.{count_none, count-some}
+use mathlib.Core.Path.{◌≡◌}
+use Rattle.std.proofs.Common.{rules}
+use Rattle.std.specs.Result.{result_unwrap_or}
+use Rattle.durations_files.proofs.Cells.{count-is}
 use Rattle.durations_files.proofs.count_cells.Goals as goal
 
-pub returns-in-Refused : goal.returns-in-Refused
-returns-in-Refused c = count_none c.args.text.now c.read_cells-answer.ensures c.in-Refused.is
-
-pub returns-in-Filled : goal.returns-in-Filled
-returns-in-Filled c = count-some c.args.text.now c.read_cells-answer.ensures c.in-Filled.is
+pub returns : goal.returns
+returns c =
+    let is : c.unwrap_or.result ≡ result_unwrap_or c.read_cells.result 0 = search rules in
+    count-is c.args.text.now c.read_cells.ensures is

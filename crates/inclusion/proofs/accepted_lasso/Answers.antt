@@ -13,15 +13,15 @@ use Rattle.inclusion.proofs.Nothing.{nothing-built, alike-nothing, sizes-beside,
 use Rattle.inclusion.proofs.accepted_lasso.Goals as goal
 
 -- the sheet as it is built
-built-is : {b : List ℕ} {z : Sizes} (n : ℕ) → Valid b → z ≡ sizes_of b → n ≡ z.letters → take (4 + 2 * z.letters) (n ∷ 1 ∷ 1 ∷ replicate 65 0) ≡ nothing_bytes (letter_count b)
-built-is {z = z} n V e en =
+built-is : {b : List ℕ} {z : Sizes} → Valid b → z ≡ sizes_of b → take (4 + 2 * z.letters) (z.letters ∷ 1 ∷ 1 ∷ replicate 65 0) ≡ nothing_bytes (letter_count b)
+built-is {z = z} V e =
     let few : z.letters ≤ 32 = omega (arith, ap (λ (z : Sizes). z.letters) e, V.header.few_letters) in
-    ap (λ (x : ℕ). take (4 + 2 * z.letters) (x ∷ 1 ∷ 1 ∷ replicate 65 0)) en ∙ (nothing-built z.letters few ∙ ap (λ (z : Sizes). nothing_bytes z.letters) e)
+    nothing-built z.letters few ∙ ap (λ (z : Sizes). nothing_bytes z.letters) e
 
 pub search_cells-requires : goal.search_cells-requires
 search_cells-requires c =
     let p = c.requires in
-    let built = built-is c.narrow.result p.0 p.1 c.narrow.ensures in
+    let built = built-is p.0 p.1 in
     let a : Sizes = c.args.sizes in
     let z : Sizes = sizes_of c.args.sheet.now in
     let e : ◌≡◌ {A = PairSizes} (record { letters = a.letters; first = a.states; second = 1; pairs = a.states; widest = a.widest })
@@ -30,4 +30,4 @@ search_cells-requires c =
     (alike-nothing _ p.0 built, e ∙ sizes-beside _ p.0 built)
 
 pub returns : goal.returns
-returns c = searched-nothing c.args.sheet.now c.requires.0 _ (built-is c.narrow.result c.requires.0 c.requires.1 c.narrow.ensures) c.search_cells.ensures
+returns c = searched-nothing c.args.sheet.now c.requires.0 _ (built-is c.requires.0 c.requires.1) c.search_cells.ensures

@@ -5,8 +5,8 @@ use Rattle.inclusion.proofs.Comparing.{searched-compared}
 use Rattle.inclusion.proofs.compare.Goals as goal
 
 pub search_cells-requires : goal.search_cells-requires
-search_cells-requires c = let z = was-given _ _ c.in-Paired.ensures in (sound-alike _ _ z.0, z.1)
+search_cells-requires c = let z = was-given _ _ c.in_ok-sizes.ensures in (sound-alike _ _ z.0, z.1)
 
-pub returns-in-Paired : goal.returns-in-Paired
-returns-in-Paired c =
-    let z = was-given _ _ c.in-Paired.ensures in searched-compared (sound-alike _ _ z.0) _ z.0 c.search_cells.ensures
+pub returns : goal.returns
+returns c =
+    let z = was-given _ _ c.in_ok-sizes.ensures in searched-compared (sound-alike _ _ z.0) _ z.0 c.search_cells.ensures

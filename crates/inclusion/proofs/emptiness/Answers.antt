@@ -6,8 +6,8 @@ use Rattle.inclusion.proofs.Nothing.{searched-emptied}
 use Rattle.inclusion.proofs.emptiness.Goals as goal
 
 pub accepted_lasso-requires : goal.accepted_lasso-requires
-accepted_lasso-requires c = let z = was-given _ _ c.in-Valid.ensures in (sound-valid First _ z.0, z.1)
+accepted_lasso-requires c = let z = was-given _ _ c.in_ok-sizes.ensures in (sound-valid First _ z.0, z.1)
 
-pub returns-in-Valid : goal.returns-in-Valid
-returns-in-Valid c =
-    let z = was-given _ _ c.in-Valid.ensures in searched-emptied _ (sound-valid First _ z.0) _ z.0 c.accepted_lasso.ensures
+pub returns : goal.returns
+returns c =
+    let z = was-given _ _ c.in_ok-sizes.ensures in searched-emptied _ (sound-valid First _ z.0) _ z.0 c.accepted_lasso.ensures

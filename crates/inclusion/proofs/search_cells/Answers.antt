@@ -6,6 +6,8 @@ use native.Mathlib.Omega.{arith}
 use native.Mathlib.Nat.{mul-le-mul}
 use lib.ListN.{replicate}
 use lib.Seq.{length-take-le}
+use Rattle.std.specs.Prelude.{Ok}
+use Rattle.slices.proofs.Refusals.{handed}
 use Rattle.pairing.specs.declared.PairSizes.{PairSizes}
 use Rattle.pairing.specs.Pairs.{Alike, sizes_of}
 use Rattle.pairing.proofs.Within.{few_pairs, few-widest}
@@ -34,11 +36,17 @@ pub overflow_add-cells : goal.overflow_add-cells
 overflow_add-cells c = omega (arith, few c.requires.0 c.requires.1, few-all c.requires.0 c.requires.1)
 
 pub placed-requires : goal.placed-requires
-placed-requires c = (c.requires.0, reports-lies c.first_lasso-found.result c.first_lasso-found.ensures.reports)
+placed-requires c = (c.requires.0, reports-lies c.in_ok-found.found c.in_ok-found.ensures.reports)
 
 pub returns : goal.returns
 returns c =
     let e = cells_is c.requires.0 c.requires.1 in
-    reports-searched c.requires.0 c.first_lasso-found.ensures.reports (cells-suffice e c.if-lent-cells.false) c.placed.ensures
-    (c.first_lasso-found.ensures.clears ∙ ap (λ (x : ℕ). replicate x 0) (length-take-le _ _ c.if-lent-cells.false))
+    reports-searched c.requires.0 c.in_ok-found.ensures.reports (cells-suffice e c.if-lent-cells.false) (ap Ok c.placed.ensures) (c.in_ok-found.ensures.clears ∙ ap (λ (x : ℕ). replicate x 0) (length-take-le _ _ c.if-lent-cells.false))
     e
+
+-- refused for the room of the lasso
+pub returns-in_err-found : goal.returns-in_err-found
+returns-in_err-found c =
+    let e = cells_is c.requires.0 c.requires.1 in
+    reports-searched c.requires.0 c.in_err-found.ensures.reports (cells-suffice e c.if-lent-cells.false) (handed c.from_residual.ensures)
+    (c.in_err-found.ensures.clears ∙ ap (λ (x : ℕ). replicate x 0) (length-take-le _ _ c.if-lent-cells.false)) e

@@ -11,14 +11,10 @@ use Rattle.fdfa.proofs.Words.{over-power, walk-closed, walk_turn}
 use Rattle.packed.specs.Layout.{letter_count, state_count, size_of, progress_at_value, marks_at, decode, Valid}
 use Rattle.packed.proofs.Bounds.{Body}
 use Rattle.packed.proofs.Reading.{length-columns, part_of, progress-walks}
-use borrow.Author.Rules.{rules}
 use Rattle.membership.proofs.progress.Goals as goal
 
 one_more : (f : ℕ → ℕ → ℕ) (v : List ℕ) (e t : ℕ) → e ≡ walk f 0 (power v t) → walk f e v ≡ walk f 0 (power v (t + 1))
 one_more f v e t d = ap (λ (q : ℕ). walk f q v) d ∙ walk_turn f 0 v t
-
-all-powers : (f : ℕ → ℕ → ℕ) (v : List ℕ) (t count : ℕ) → t ≤ count → count ≤ t → walk f 0 (power v t) ≡ walk f 0 (power v count)
-all-powers f v t count h l = let e : t ≡ count = omega arith in ap (λ (n : ℕ). walk f 0 (power v n)) e
 
 -- where the progress automaton of q stands is one of its states
 below : (b v : List ℕ) (q t : ℕ) {e : ℕ} → Valid b × Over (letter_count b) v × (q < state_count b) → e ≡ walk ((decode b).progress q) 0 (power v t) → e < size_of b q
@@ -50,8 +46,8 @@ columns-table-requires c =
     let p = c.requires in
     (omega (arith, marks c.args.sheet.now c.args.q c.progress_at-at.ensures c.size-k.ensures c.requires.letters_value, (body c.args.sheet.now c.args.period.now c.args.q c.requires.valid).within), omega (arith, p.letters_value, p.valid.0.header.few_letters))
 
-pub loop-t-init : goal.loop-t-init
-loop-t-init c = (search rules, refl)
+pub loop-init : goal.loop-init
+loop-init c = refl
 
 pub slice_bounds-walk-end : goal.slice_bounds-walk-end
 slice_bounds-walk-end c =
@@ -59,12 +55,12 @@ slice_bounds-walk-end c =
     sym (ap length c.columns-table.ensures ∙ length-columns _ _ _ _ (omega (arith, p.letters_value, p.valid.0.header.few_letters)))
 
 pub walk-end-requires : goal.walk-end-requires
-walk-end-requires c = (progress-walks _ c.requires.valid.0 c.columns-table.ensures c.progress_at-at.ensures c.requires.letters_value c.size-k.ensures c.requires.valid.2 (below c.args.sheet.now c.args.period.now c.args.q c.loop-t.t c.requires.valid c.loop-t.invariant.1) c.requires.valid.1).0
+walk-end-requires c = (progress-walks _ c.requires.valid.0 c.columns-table.ensures c.progress_at-at.ensures c.requires.letters_value c.size-k.ensures c.requires.valid.2 (below c.args.sheet.now c.args.period.now c.args.q c.loop.counter c.requires.valid c.loop.invariant) c.requires.valid.1).0
 
-pub loop-t-preserved : goal.loop-t-preserved
-loop-t-preserved c =
+pub loop-preserved : goal.loop-preserved
+loop-preserved c =
     let s = c.args in
-    (search rules, c.walk-end.ensures ∙ ((progress-walks _ c.requires.valid.0 c.columns-table.ensures c.progress_at-at.ensures c.requires.letters_value c.size-k.ensures c.requires.valid.2 (below c.args.sheet.now c.args.period.now c.args.q c.loop-t.t c.requires.valid c.loop-t.invariant.1) c.requires.valid.1).1 ∙ one_more ((decode s.sheet.now).progress s.q) s.period.now _ c.loop-t.t c.loop-t.invariant.1))
+    (c.walk-end.ensures ∙ ((progress-walks _ c.requires.valid.0 c.columns-table.ensures c.progress_at-at.ensures c.requires.letters_value c.size-k.ensures c.requires.valid.2 (below c.args.sheet.now c.args.period.now c.args.q c.loop.counter c.requires.valid c.loop.invariant) c.requires.valid.1).1 ∙ one_more ((decode s.sheet.now).progress s.q) s.period.now _ c.loop.counter c.loop.invariant))
 
 pub overflow_mul-marks : goal.overflow_mul-marks
 overflow_mul-marks c = omega (arith, product-few c.args.sheet.now c.args.period.now c.args.q c.requires.valid c.size-k.ensures c.requires.letters_value)
@@ -73,12 +69,13 @@ pub overflow_add-marks : goal.overflow_add-marks
 overflow_add-marks c = omega (arith, marks c.args.sheet.now c.args.q c.progress_at-at.ensures c.size-k.ensures c.requires.letters_value, (body c.args.sheet.now c.args.period.now c.args.q c.requires.valid).within, (body c.args.sheet.now c.args.period.now c.args.q c.requires.valid).low)
 
 pub is_marked-requires : goal.is_marked-requires
-is_marked-requires c = omega (arith, marks c.args.sheet.now c.args.q c.progress_at-at.ensures c.size-k.ensures c.requires.letters_value, (body c.args.sheet.now c.args.period.now c.args.q c.requires.valid).within, below c.args.sheet.now c.args.period.now c.args.q c.loop-t.t c.requires.valid c.loop-t.invariant.1)
+is_marked-requires c = omega (arith, marks c.args.sheet.now c.args.q c.progress_at-at.ensures c.size-k.ensures c.requires.letters_value, (body c.args.sheet.now c.args.period.now c.args.q c.requires.valid).within, below c.args.sheet.now c.args.period.now c.args.q c.loop.counter c.requires.valid c.loop.invariant)
 
 pub returns : goal.returns
 returns c =
     let s = c.args in
     let F = decode s.sheet.now in
-    let e = c.loop-t.invariant.1 ∙ all-powers (F.progress s.q) s.period.now c.loop-t.t s.count c.loop-t.invariant.0 c.loop-t-test.false in
-    let m = c.is_marked.ensures ∙ ap (λ (m : ℕ). eqb (get_or s.sheet.now (m + c.loop-t.end) 0) 1) (marks c.args.sheet.now c.args.q c.progress_at-at.ensures c.size-k.ensures c.requires.letters_value) in
+    let n : c.loop.counter ≡ s.count = omega arith in
+    let e = c.loop.invariant ∙ ap (λ (n : ℕ). walk (F.progress s.q) 0 (power s.period.now n)) n in
+    let m = c.is_marked.ensures ∙ ap (λ (m : ℕ). eqb (get_or s.sheet.now (m + c.loop.end) 0) 1) (marks c.args.sheet.now c.args.q c.progress_at-at.ensures c.size-k.ensures c.requires.letters_value) in
     λ k. record { end = e k; accepted = (m ∙ ap (F.accepting s.q) e) k }

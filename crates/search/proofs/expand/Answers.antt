@@ -4,7 +4,7 @@ use mathlib.Core.List.{List}
 use Prim.Native.Nat.{ℕ, ◌+◌, ◌*◌, ◌-◌, ◌/◌, ◌%◌, ◌≤◌, ◌<◌}
 use native.Mathlib.Omega.{arith}
 use native.Mathlib.Nat.{mul-le-mul, mod-lt, div-add-mod'}
-use lib.ListN.{length, get_or, set, length-set}
+use lib.ListN.{length, get_or, set}
 use Rattle.search.specs.Queue.{entry, place_at}
 use Rattle.search.specs.Search.{Space, reach, Ends, Aim, joint, row_step, Ready, Searchable}
 use Rattle.search.proofs.Joint as joint
@@ -12,6 +12,7 @@ use Rattle.search.proofs.Joint.{Stands, stands}
 use Rattle.search.proofs.Outcomes.{Expanding, codes-few, expanding-in, expanding-room, expanding-on, expanding-ends, expanding-done}
 use Rattle.search.proofs.expand.Invariants.{Letters}
 use Rattle.search.proofs.expand.Goals as goal
+use Rattle.search.proofs.expand.Goals.{In-loop-a, After-from-in-loop-a}
 
 -- what is known of the state that is expanded
 module _ {leads rows status₀ cells₀ : List ℕ} {n s root total head place : ℕ} (given : Searchable leads rows n s root status₀ cells₀ total head) (here : head < total)
@@ -90,6 +91,16 @@ module _ {leads rows status₀ cells₀ : List ℕ} {n s root total head place :
       status-cell : value % 1048576 < length status
       status-cell = let r = given.ready in rw (state-is aim r, E.search.size) (r.bounded.closed x a known.inside al)
 
+-- the same at the places of the code
+heads : (c : In-loop-a) → (c.args.head ≤ 1048576) × (c.loop-a.a < 32)
+heads c = head-few c.requires.0 c.requires.1 c.place_of-place.ensures c.loop-a.invariant c.loop-a-test.true
+
+tail : (c : In-loop-a) → (1 ≤ c.loop-a.codes) × (c.loop-a.codes ≤ length c.loop-a.cells)
+tail c = tail-cell c.requires.0 c.requires.1 c.place_of-place.ensures c.loop-a.invariant c.loop-a-test.true
+
+next-few : (c : After-from-in-loop-a) → c.from.result + c.from-in-loop-a.result * (c.args.width + 1048576) < 1073741824
+next-few c = few c.requires.0 c.requires.1 c.place_of-place.ensures c.loop-a.invariant c.loop-a-test.true c.from.ensures c.from-in-loop-a.ensures
+
 pub place_of-place-requires : goal.place_of-place-requires
 place_of-place-requires c = let S = c.requires.0.ready.search in omega (arith, codes-few S, S.room, c.requires.1)
 
@@ -116,8 +127,6 @@ overflow_mul-lead-2 c =
 
 pub loop-a-init : goal.loop-a-init
 loop-a-init c = record {
-  status_same = refl;
-  cells_same = refl;
   all = λ aim r. record {
     search = r.search;
     state = sym (stands r.tables r.bounded r.leading r.search c.args.head c.requires.1 c.place_of-place.ensures).state;
@@ -137,61 +146,59 @@ overflow_add-next c = omega (arith, c.requires.0.ready.tables.few_leads)
 
 pub overflow_mul-next : goal.overflow_mul-next
 overflow_mul-next c =
-    omega (arith, few c.requires.0 c.requires.1 c.place_of-place.ensures c.loop-a.invariant c.loop-a-test.true c.wide16.ensures c.wide16-in-loop-a.ensures)
+    omega (arith, next-few ((goal.at.overflow_mul-next c).After-from-in-loop-a))
 
 pub overflow_add-next-in-loop-a : goal.overflow_add-next-in-loop-a
 overflow_add-next-in-loop-a c =
-    omega (arith, few c.requires.0 c.requires.1 c.place_of-place.ensures c.loop-a.invariant c.loop-a-test.true c.wide16.ensures c.wide16-in-loop-a.ensures)
+    omega (arith, next-few ((goal.at.overflow_add-next-in-loop-a c).After-from-in-loop-a))
 
 pub overflow_mul-cells : goal.overflow_mul-cells
-overflow_mul-cells c = omega (arith, head-few c.requires.0 c.requires.1 c.place_of-place.ensures c.loop-a.invariant c.loop-a-test.true)
+overflow_mul-cells c = omega (arith, heads ((goal.at.overflow_mul-cells c).In-loop-a))
 
 pub overflow_add-cells : goal.overflow_add-cells
-overflow_add-cells c = omega (arith, head-few c.requires.0 c.requires.1 c.place_of-place.ensures c.loop-a.invariant c.loop-a-test.true)
+overflow_add-cells c = omega (arith, heads ((goal.at.overflow_add-cells c).In-loop-a))
 
 pub overflow_mul-cells-in-loop-a : goal.overflow_mul-cells-in-loop-a
-overflow_mul-cells-in-loop-a c = omega (arith, head-few c.requires.0 c.requires.1 c.place_of-place.ensures c.loop-a.invariant c.loop-a-test.true)
+overflow_mul-cells-in-loop-a c = omega (arith, heads ((goal.at.overflow_mul-cells-in-loop-a c).In-loop-a))
 
 pub overflow_add-cells-in-loop-a : goal.overflow_add-cells-in-loop-a
 overflow_add-cells-in-loop-a c =
     omega (
       arith,
-      few c.requires.0 c.requires.1 c.place_of-place.ensures c.loop-a.invariant c.loop-a-test.true c.wide16.ensures c.wide16-in-loop-a.ensures,
-      head-few c.requires.0 c.requires.1 c.place_of-place.ensures c.loop-a.invariant c.loop-a-test.true,
+      next-few ((goal.at.overflow_add-cells-in-loop-a c).After-from-in-loop-a),
+      heads ((goal.at.overflow_add-cells-in-loop-a c).In-loop-a),
     )
 
 pub overflow_sub-cells : goal.overflow_sub-cells
-overflow_sub-cells c = (tail-cell c.requires.0 c.requires.1 c.place_of-place.ensures c.loop-a.invariant c.loop-a-test.true).0
+overflow_sub-cells c = (tail ((goal.at.overflow_sub-cells c).In-loop-a)).0
 
 pub offset_bounds-cells-codes : goal.offset_bounds-cells-codes
-offset_bounds-cells-codes c = omega (arith, tail-cell c.requires.0 c.requires.1 c.place_of-place.ensures c.loop-a.invariant c.loop-a-test.true)
+offset_bounds-cells-codes c = omega (arith, tail ((goal.at.offset_bounds-cells-codes c).In-loop-a))
 
 pub bounds-cells-codes : goal.bounds-cells-codes
-bounds-cells-codes c = omega (arith, tail-cell c.requires.0 c.requires.1 c.place_of-place.ensures c.loop-a.invariant c.loop-a-test.true)
+bounds-cells-codes c = omega (arith, tail ((goal.at.bounds-cells-codes c).In-loop-a))
 
 pub bounds-status-x : goal.bounds-status-x
 bounds-status-x c =
-    status-cell c.requires.0 c.requires.1 c.place_of-place.ensures c.loop-a.invariant c.loop-a-test.true c.wide16.ensures c.wide16-in-loop-a.ensures
+    status-cell c.requires.0 c.requires.1 c.place_of-place.ensures c.loop-a.invariant c.loop-a-test.true c.from.ensures c.from-in-loop-a.ensures
 
 pub bounds-status-x-in-loop-a : goal.bounds-status-x-in-loop-a
 bounds-status-x-in-loop-a c =
-    status-cell c.requires.0 c.requires.1 c.place_of-place.ensures c.loop-a.invariant c.loop-a-test.true c.wide16.ensures c.wide16-in-loop-a.ensures
+    status-cell c.requires.0 c.requires.1 c.place_of-place.ensures c.loop-a.invariant c.loop-a-test.true c.from.ensures c.from-in-loop-a.ensures
 
 pub returns-then-m-eq2 : goal.returns-then-m-eq2
 returns-then-m-eq2 c = λ goal r.
-    ends-here c.requires.0 c.requires.1 c.place_of-place.ensures c.loop-a.invariant c.loop-a-test.true c.wide16.ensures c.wide16-in-loop-a.ensures goal r c.if-m-eq2.true
+    ends-here c.requires.0 c.requires.1 c.place_of-place.ensures c.loop-a.invariant c.loop-a-test.true c.from.ensures c.from-in-loop-a.ensures goal r c.if-m-eq2.true
 
 pub overflow_add-codes : goal.overflow_add-codes
 overflow_add-codes c =
-    omega (arith, tail-cell c.requires.0 c.requires.1 c.place_of-place.ensures c.loop-a.invariant c.loop-a-test.true, c.wide-codes.ensures)
+    omega (arith, tail ((goal.at.overflow_add-codes c).In-loop-a), c.from-codes.ensures)
 
 pub loop-a-preserved : goal.loop-a-preserved
 loop-a-preserved c = record {
-  status_same = simp length-set c.loop-a.invariant.status_same;
-  cells_same = simp length-set c.loop-a.invariant.cells_same;
   all = λ goal r.
-      rw c.wide-codes.ensures
-      (goes_on c.requires.0 c.requires.1 c.place_of-place.ensures c.loop-a.invariant c.loop-a-test.true c.wide16.ensures c.wide16-in-loop-a.ensures goal r c.if-m-eq2.false);
+      rw c.from-codes.ensures
+      (goes_on c.requires.0 c.requires.1 c.place_of-place.ensures c.loop-a.invariant c.loop-a-test.true c.from.ensures c.from-in-loop-a.ensures goal r c.if-m-eq2.false);
 }
 
 pub returns : goal.returns

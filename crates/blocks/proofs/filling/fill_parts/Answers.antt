@@ -1,10 +1,10 @@
 -- `blocks::filling::fill_parts` meets its contract. Assumes nothing.
-use mathlib.Core.Path.{◌≡◌, ap, ◌∙◌}
+use mathlib.Core.Path.{◌≡◌, ◌∙◌}
 use mathlib.Core.List.{List}
 use Prim.Native.Nat.{ℕ, ◌+◌, ◌*◌, ◌≤◌, ◌<◌}
 use native.Mathlib.Omega.{arith}
 use lib.ListN.{get_or}
-use Rattle.slices.specs.Tables.{rows, sum}
+use Rattle.slices.specs.Tables.{sum}
 use Rattle.slices.proofs.Tables.{rows-within}
 use Rattle.packed.specs.Layout.{part_bytes}
 use Rattle.numbers.proofs.Stores.{stored-none-rows, stored_row, stored-length, stored-as}
@@ -13,7 +13,6 @@ use Rattle.blocks.specs.Numbers.{family_of}
 use Rattle.blocks.specs.Values.{Readable}
 use Rattle.blocks.proofs.Measures.{front-few, size-read}
 use Rattle.blocks.proofs.Gathered.{Body, first_part, body}
-use borrow.Author.Rules.{rules}
 use Rattle.blocks.proofs.filling.fill_parts.Goals as goal
 
 module _ {front parts : List ℕ} {s n : ℕ} (h : Readable front parts × (s ≡ letters_in front) × (n ≡ states_in front)) where
@@ -29,17 +28,17 @@ module _ {front parts : List ℕ} {s n : ℕ} (h : Readable front parts × (s �
 
 pub loop-q-init : goal.loop-q-init
 loop-q-init c =
-    (search rules, first_part (size_in c.args.front.now) (letters_in c.args.front.now + 3), stored-none-rows _ _ _)
+    (first_part (size_in c.args.front.now) (letters_in c.args.front.now + 3), stored-none-rows _ _ _)
 
 pub fill_part-w-requires : goal.fill_part-w-requires
 fill_part-w-requires c =
-    let b = part c.requires.readable c.loop-q-test.true c.wide16-k.ensures c.loop-q.invariant.1 in
+    let b = part c.requires.readable c.loop-q-test.true c.from-k.ensures c.loop-q.invariant.0 in
     record {
       at_bound = (
         omega (arith, b.low),
         (few c.requires.readable).0,
         b.few,
-        omega (arith, c.loop-q.invariant.2.next, stored-length c.loop-q.invariant.2, rows-within (states_in c.args.front.now) (part_bytes (family_of c.args.front.now c.args.parts.now)) c.loop-q.q (less c.requires.readable c.loop-q-test.true), c.requires.parts_in_bounds, b.size),
+        omega (arith, c.loop-q.invariant.1.next, stored-length c.loop-q.invariant.1, rows-within (states_in c.args.front.now) (part_bytes (family_of c.args.front.now c.args.parts.now)) c.loop-q.q (less c.requires.readable c.loop-q-test.true), c.requires.parts_in_bounds, b.size),
         b.within,
       );
       by_index = b.steps;
@@ -48,14 +47,9 @@ fill_part-w-requires c =
 
 pub overflow_add-p-in-loop-q : goal.overflow_add-p-in-loop-q
 overflow_add-p-in-loop-q c =
-    let b = part c.requires.readable c.loop-q-test.true c.wide16-k.ensures c.loop-q.invariant.1 in omega (arith, b.product, b.low)
+    let b = part c.requires.readable c.loop-q-test.true c.from-k.ensures c.loop-q.invariant.0 in omega (arith, b.product, b.low)
 
 pub loop-q-preserved : goal.loop-q-preserved
 loop-q-preserved c =
-    let b = part c.requires.readable c.loop-q-test.true c.wide16-k.ensures c.loop-q.invariant.1 in
-    (search rules, b.next, stored_row c.loop-q.q (part_bytes (family_of c.args.front.now c.args.parts.now)) c.loop-q.invariant.2 (stored-as b.bytes c.fill_part-w.ensures))
-
-pub returns : goal.returns
-returns c =
-    let e : c.loop-q.q ≡ states_in c.args.front.now = omega (arith, c.loop-q-test.false, c.loop-q.invariant.0, c.requires.readable.2) in
-    stored-as (ap (λ (k : ℕ). rows k (part_bytes (family_of c.args.front.now c.args.parts.now))) e) c.loop-q.invariant.2
+    let b = part c.requires.readable c.loop-q-test.true c.from-k.ensures c.loop-q.invariant.0 in
+    (b.next, stored_row c.loop-q.q (part_bytes (family_of c.args.front.now c.args.parts.now)) c.loop-q.invariant.1 (stored-as b.bytes c.fill_part-w.ensures))

@@ -1,6 +1,6 @@
 -- The loops of `blocks::filling::fill_parts`.
 use mathlib.Core.Path.{◌≡◌}
-use Prim.Native.Nat.{◌+◌, ◌*◌, ◌-◌, ◌≤◌}
+use Prim.Native.Nat.{◌+◌, ◌*◌}
 use Rattle.slices.specs.Tables.{rows, sum}
 use Rattle.packed.specs.Layout.{part_bytes}
 use Rattle.numbers.specs.Storing.{Stored}
@@ -9,7 +9,4 @@ use Rattle.blocks.specs.Numbers.{family_of}
 use Rattle.blocks.proofs.filling.fill_parts.Given as goal
 
 abbrev pub invariant-loop-q : goal.invariant-loop-q
-invariant-loop-q l = (l.q ≤ l.n) × (l.p ≡ sum l.q (size_in l.front) * (letters_in l.front + 3)) × Stored l.initial.out l.to (rows l.q (part_bytes (family_of l.front l.parts))) l.out l.w
-
-abbrev pub decreases-loop-q : goal.decreases-loop-q
-decreases-loop-q l = l.n - l.q
+invariant-loop-q l = (l.p ≡ sum l.q (size_in l.front) * (letters_in l.front + 3)) × Stored l.initial.out l.to (rows l.q (part_bytes (family_of l.front l.parts))) l.out l.w

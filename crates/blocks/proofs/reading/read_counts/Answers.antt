@@ -1,4 +1,5 @@
 -- `blocks::reading::read_counts` meets its contract. Assumes nothing.
+use Rattle.slices.proofs.Refusals.{handed}
 use mathlib.Core.Path.{refl, ap, sym, ◌∙◌}
 use mathlib.Core.List.{List}
 use Prim.Native.Nat.{ℕ}
@@ -17,15 +18,15 @@ counts vs = row counts_row_of
 
 pub read_row-requires : goal.read_row-requires
 read_row-requires c =
-    (step-within First c.args.text.now (fixed-literal counts_title) counts 0 c.read_literal-step.ensures (omega arith) c.in-Next.is, omega (arith, ap (λ (r : Row). r.count) c.counts_row.ensures, c.requires))
+    (step-within First c.args.text.now (fixed-literal counts_title) counts 0 c.read_literal.ensures (omega arith) c.in_ok-e.was, omega (arith, ap (λ (r : Row). r.count) c.counts_row.ensures, c.requires))
 
-pub returns-in-Refused : goal.returns-in-Refused
-returns-in-Refused c =
-    reads-refused refl (step-refused First c.args.text.now (fixed-literal counts_title) counts 0 c.read_literal-step.ensures c.in-Refused.is)
+pub returns-in_err-e : goal.returns-in_err-e
+returns-in_err-e c = rw (handed c.from_residual.ensures)
+    (reads-refused refl (step-refused First c.args.text.now (fixed-literal counts_title) counts 0 c.read_literal.ensures c.in_err-e.was))
 
-pub returns-in-Next : goal.returns-in-Next
-returns-in-Next c =
+pub returns : goal.returns
+returns c =
     reads_as
-    (step_given First c.args.text.now (fixed-literal counts_title) counts 0 c.read_literal-step.ensures (omega arith) c.in-Next.is
-    ∙ ap (λ (r : Row). reading First c.args.text.now (row r) c.in-Next.e) (sym c.counts_row.ensures))
+    (step_given First c.args.text.now (fixed-literal counts_title) counts 0 c.read_literal.ensures (omega arith) c.in_ok-e.was
+    ∙ ap (λ (r : Row). reading First c.args.text.now (row r) c.in_ok-e.e) (sym c.counts_row.ensures))
     c.read_row.ensures

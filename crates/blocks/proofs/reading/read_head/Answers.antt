@@ -1,4 +1,5 @@
 -- `blocks::reading::read_head` meets its contract. Assumes nothing.
+use Rattle.slices.proofs.Refusals.{handed}
 use mathlib.Core.Path.{ap, sym, ◌∙◌}
 use mathlib.Core.List.{List, [], ◌∷◌}
 use Prim.Native.Nat.{ℕ}
@@ -17,17 +18,17 @@ pub read_names-requires : goal.read_names-requires
 read_names-requires c =
     let letters : List ℕ → Format =
     λ vs. literal (names c.args.s) in
-    (step-within First c.args.text.now (fixed-literal c.args.title.now) letters c.args.at c.read_literal-step.ensures c.requires.0 c.in-Next.is, c.requires.1)
+    (step-within First c.args.text.now (fixed-literal c.args.title.now) letters c.args.at c.read_literal.ensures c.requires.0 c.in_ok-e.was, c.requires.1)
 
-pub returns-in-Refused : goal.returns-in-Refused
-returns-in-Refused c =
-    let letters : List ℕ → Format =
+pub returns-in_err-e : goal.returns-in_err-e
+returns-in_err-e c = rw (handed c.from_residual.ensures)
+    (let letters : List ℕ → Format =
     λ vs. literal (names c.args.s) in
-    ap placed (sym (seq-refused First c.args.text.now (seq (literal c.args.title.now) letters) c.args.at feed (step-refused First c.args.text.now (fixed-literal c.args.title.now) letters c.args.at c.read_literal-step.ensures c.in-Refused.is)))
+    ap placed (sym (seq-refused First c.args.text.now (seq (literal c.args.title.now) letters) c.args.at feed (step-refused First c.args.text.now (fixed-literal c.args.title.now) letters c.args.at c.read_literal.ensures c.in_err-e.was))))
 
-pub returns-in-Next : goal.returns-in-Next
-returns-in-Next c =
+pub returns : goal.returns
+returns c =
     let letters : List ℕ → Format =
     λ vs. literal (names c.args.s) in
     c.read_names.ensures
-    ∙ ap placed (sym (seq-as First c.args.text.now (seq (literal c.args.title.now) letters) c.args.at feed (letters []) c.in-Next.e (step_given First c.args.text.now (fixed-literal c.args.title.now) letters c.args.at c.read_literal-step.ensures c.requires.0 c.in-Next.is)))
+    ∙ ap placed (sym (seq-as First c.args.text.now (seq (literal c.args.title.now) letters) c.args.at feed (letters []) c.in_ok-e.e (step_given First c.args.text.now (fixed-literal c.args.title.now) letters c.args.at c.read_literal.ensures c.requires.0 c.in_ok-e.was)))

@@ -1,4 +1,5 @@
 -- `blocks::reading::read_leading` meets its contract. Assumes nothing.
+use Rattle.slices.proofs.Refusals.{handed}
 use mathlib.Core.Path.{refl, ap, sym, ◌∙◌}
 use mathlib.Core.List.{List}
 use Prim.Native.Nat.{ℕ, ◌*◌}
@@ -17,19 +18,19 @@ read_rows-requires c =
     let table : List ℕ → Format =
     λ vs. each c.args.n (λ q. row (leading_row_of c.args.s c.args.n q)) in
     let r = ap (λ (x : Row). c.args.n * x.count) c.leading_row.ensures in
-    (step-within First c.args.text.now (fixed-head leading_title c.args.s) table c.args.at c.read_head-step.ensures c.requires.0 c.in-Next.is, omega (arith, c.requires.2), omega (arith, r, c.requires.3))
+    (step-within First c.args.text.now (fixed-head leading_title c.args.s) table c.args.at c.read_head.ensures c.requires.0 c.in_ok-e.was, omega (arith, c.requires.2), omega (arith, r, c.requires.3))
 
-pub returns-in-Refused : goal.returns-in-Refused
-returns-in-Refused c =
-    let table : List ℕ → Format =
+pub returns-in_err-e : goal.returns-in_err-e
+returns-in_err-e c = rw (handed c.from_residual.ensures)
+    (let table : List ℕ → Format =
     λ vs. each c.args.n (λ q. row (leading_row_of c.args.s c.args.n q)) in
-    reads-refused refl (step-refused First c.args.text.now (fixed-head leading_title c.args.s) table c.args.at c.read_head-step.ensures c.in-Refused.is)
+    reads-refused refl (step-refused First c.args.text.now (fixed-head leading_title c.args.s) table c.args.at c.read_head.ensures c.in_err-e.was))
 
-pub returns-in-Next : goal.returns-in-Next
-returns-in-Next c =
+pub returns : goal.returns
+returns c =
     let table : List ℕ → Format =
     λ vs. each c.args.n (λ q. row (leading_row_of c.args.s c.args.n q)) in
     reads_as
-    (step_given First c.args.text.now (fixed-head leading_title c.args.s) table c.args.at c.read_head-step.ensures c.requires.0 c.in-Next.is
-    ∙ ap (λ (r : Row). reading First c.args.text.now (each c.args.n (λ q. row (numbered r 0 q))) c.in-Next.e) (sym c.leading_row.ensures))
+    (step_given First c.args.text.now (fixed-head leading_title c.args.s) table c.args.at c.read_head.ensures c.requires.0 c.in_ok-e.was
+    ∙ ap (λ (r : Row). reading First c.args.text.now (each c.args.n (λ q. row (numbered r 0 q))) c.in_ok-e.e) (sym c.leading_row.ensures))
     c.read_rows.ensures

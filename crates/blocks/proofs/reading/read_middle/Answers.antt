@@ -1,4 +1,5 @@
 -- `blocks::reading::read_middle` meets its contract. Assumes nothing.
+use Rattle.slices.proofs.Refusals.{handed}
 use mathlib.Core.Path.{◌≡◌, ◌∙◌}
 use mathlib.Core.List.{List}
 use Prim.Native.Nat.{ℕ}
@@ -28,23 +29,23 @@ counted {front} f el es en =
       en = en ∙ first_count front 2 (omega arith);
     }
 
-pub read_seconds-step-requires : goal.read_seconds-step-requires
-read_seconds-step-requires c =
-    let k = counted c.requires.1 c.wide16-level.ensures c.wide16-s.ensures c.wide16-n.ensures in
+pub read_seconds-requires : goal.read_seconds-requires
+read_seconds-requires c =
+    let k = counted c.requires.1 c.from-level.ensures c.from-s.ensures c.from-n.ensures in
     (c.requires.0, (few c.args.text.now c.args.front.now c.args.seconds.now c.args.at k.counts c.requires.2 k.el k.es k.en).0, c.requires.3)
 
 pub read_leading-requires : goal.read_leading-requires
 read_leading-requires c =
-    let k = counted c.requires.1 c.wide16-level.ensures c.wide16-s.ensures c.wide16-n.ensures in
+    let k = counted c.requires.1 c.from-level.ensures c.from-s.ensures c.from-n.ensures in
     let f = few c.args.text.now c.args.front.now c.args.seconds.now c.args.at k.counts c.requires.2 k.el k.es k.en in
-    ((got First c.args.text.now _ c.args.at c.read_seconds-step.ensures c.requires.0 c.in-Next.is).inside, f.0, f.1, leading-room c.args.text.now c.args.front.now c.args.seconds.now c.args.at k.counts c.requires.2 k.el k.es k.en)
+    ((got First c.args.text.now _ c.args.at c.read_seconds.ensures c.requires.0 c.in_ok-e.was).inside, f.0, f.1, leading-room c.args.text.now c.args.front.now c.args.seconds.now c.args.at k.counts c.requires.2 k.el k.es k.en)
 
-pub returns-in-Refused : goal.returns-in-Refused
-returns-in-Refused c =
-    let k = counted c.requires.1 c.wide16-level.ensures c.wide16-s.ensures c.wide16-n.ensures in
-    without-seconds c.args.text.now c.args.front.now c.args.seconds.now c.args.at k.counts c.requires.2 k.el k.es k.en c.read_seconds-step.ensures c.in-Refused.is
+pub returns-in_err-e : goal.returns-in_err-e
+returns-in_err-e c = rw (handed c.from_residual.ensures)
+    (let k = counted c.requires.1 c.from-level.ensures c.from-s.ensures c.from-n.ensures in
+    without-seconds c.args.text.now c.args.front.now c.args.seconds.now c.args.at k.counts c.requires.2 k.el k.es k.en c.read_seconds.ensures c.in_err-e.was)
 
-pub returns-in-Next : goal.returns-in-Next
-returns-in-Next c =
-    let k = counted c.requires.1 c.wide16-level.ensures c.wide16-s.ensures c.wide16-n.ensures in
-    with-leading c.args.text.now c.args.front.now c.args.seconds.now c.args.at k.counts c.requires.2 k.el k.es k.en (got First c.args.text.now _ c.args.at c.read_seconds-step.ensures c.requires.0 c.in-Next.is) c.read_leading.ensures
+pub returns : goal.returns
+returns c =
+    let k = counted c.requires.1 c.from-level.ensures c.from-s.ensures c.from-n.ensures in
+    with-leading c.args.text.now c.args.front.now c.args.seconds.now c.args.at k.counts c.requires.2 k.el k.es k.en (got First c.args.text.now _ c.args.at c.read_seconds.ensures c.requires.0 c.in_ok-e.was) c.read_leading.ensures

@@ -1,5 +1,4 @@
 -- The loops of `blocks::reading::read_parts`.
-use Prim.Native.Nat.{◌-◌}
 use Rattle.slices.specs.declared.Part.TheVariants.{First}
 use Rattle.format.proofs.Repeating.{Partly}
 use Rattle.blocks.specs.Text.{size_in}
@@ -8,6 +7,3 @@ use Rattle.blocks.proofs.reading.read_parts.Given as goal
 
 abbrev pub invariant-loop-q : goal.invariant-loop-q
 invariant-loop-q l = Partly First l.text (parted l.s (size_in l.front)) l.n l.at l.initial.parts l.parts l.p l.w l.q
-
-abbrev pub decreases-loop-q : goal.decreases-loop-q
-decreases-loop-q l = l.n - l.q

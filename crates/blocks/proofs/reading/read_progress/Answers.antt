@@ -1,4 +1,5 @@
 -- `blocks::reading::read_progress` meets its contract. Assumes nothing.
+use Rattle.slices.proofs.Refusals.{handed}
 use mathlib.Core.Path.{◌≡◌, refl, sym, ◌∙◌}
 use mathlib.Core.List.{List}
 use Prim.Native.Nat.{ℕ}
@@ -10,29 +11,29 @@ use Rattle.blocks.specs.Text.{progress_title, part_format, progress_format, size
 use Rattle.blocks.proofs.Shapes.{fixed-head, front-was}
 use Rattle.blocks.proofs.reading.read_progress.Goals as goal
 
-pub read_head-step-requires : goal.read_head-step-requires
-read_head-step-requires c = (c.requires.0, omega (arith, (front-was c.args.front.now c.requires.1).few_letters, c.requires.2))
+pub read_head-requires : goal.read_head-requires
+read_head-requires c = (c.requires.0, omega (arith, (front-was c.args.front.now c.requires.1).few_letters, c.requires.2))
 
 pub read_parts-requires : goal.read_parts-requires
 read_parts-requires c =
     let parts : List ℕ → Format =
     λ vs. each c.args.n (λ q. part_format c.args.s (size_in c.args.front.now q) q) in
-    (step-within First c.args.text.now (fixed-head progress_title c.args.s) parts c.args.at c.read_head-step.ensures c.requires.0 c.in-Next.is, c.requires.1, c.requires.2, c.requires.3, c.requires.4)
+    (step-within First c.args.text.now (fixed-head progress_title c.args.s) parts c.args.at c.read_head.ensures c.requires.0 c.in_ok-e.was, c.requires.1, c.requires.2, c.requires.3, c.requires.4)
 
-pub returns-in-Refused : goal.returns-in-Refused
+pub returns-in_err-e : goal.returns-in_err-e
 unfolding parts_format
-returns-in-Refused c =
+returns-in_err-e c = rw (handed c.from_residual.ensures)
+    (let parts : List ℕ → Format =
+    λ vs. each c.args.n (λ q. part_format c.args.s (size_in c.args.front.now q) q) in
+    let same : reading First c.args.text.now (parts_format c.args.front.now) c.args.at ≡ reading First c.args.text.now (progress_format c.args.s c.args.n (size_in c.args.front.now)) c.args.at =
+    λ i. reading First c.args.text.now (progress_format (sym c.requires.2 i) (sym c.requires.3 i) (size_in c.args.front.now)) c.args.at in
+    reads-refused refl (same ∙ step-refused First c.args.text.now (fixed-head progress_title c.args.s) parts c.args.at c.read_head.ensures c.in_err-e.was))
+
+pub returns : goal.returns
+unfolding parts_format
+returns c =
     let parts : List ℕ → Format =
     λ vs. each c.args.n (λ q. part_format c.args.s (size_in c.args.front.now q) q) in
     let same : reading First c.args.text.now (parts_format c.args.front.now) c.args.at ≡ reading First c.args.text.now (progress_format c.args.s c.args.n (size_in c.args.front.now)) c.args.at =
     λ i. reading First c.args.text.now (progress_format (sym c.requires.2 i) (sym c.requires.3 i) (size_in c.args.front.now)) c.args.at in
-    reads-refused refl (same ∙ step-refused First c.args.text.now (fixed-head progress_title c.args.s) parts c.args.at c.read_head-step.ensures c.in-Refused.is)
-
-pub returns-in-Next : goal.returns-in-Next
-unfolding parts_format
-returns-in-Next c =
-    let parts : List ℕ → Format =
-    λ vs. each c.args.n (λ q. part_format c.args.s (size_in c.args.front.now q) q) in
-    let same : reading First c.args.text.now (parts_format c.args.front.now) c.args.at ≡ reading First c.args.text.now (progress_format c.args.s c.args.n (size_in c.args.front.now)) c.args.at =
-    λ i. reading First c.args.text.now (progress_format (sym c.requires.2 i) (sym c.requires.3 i) (size_in c.args.front.now)) c.args.at in
-    reads_as (same ∙ step_given First c.args.text.now (fixed-head progress_title c.args.s) parts c.args.at c.read_head-step.ensures c.requires.0 c.in-Next.is) c.read_parts.ensures
+    reads_as (same ∙ step_given First c.args.text.now (fixed-head progress_title c.args.s) parts c.args.at c.read_head.ensures c.requires.0 c.in_ok-e.was) c.read_parts.ensures

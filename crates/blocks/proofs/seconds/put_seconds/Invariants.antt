@@ -1,6 +1,6 @@
 -- The loops of `blocks::seconds::put_seconds`.
 use mathlib.Core.List.{List}
-use Prim.Native.Nat.{ℕ, ◌-◌, ◌≤◌}
+use Prim.Native.Nat.{ℕ}
 use Rattle.slices.specs.Tables.{rows}
 use Rattle.numbers.specs.Storing.{Stored}
 use Rattle.format.specs.Rows.{line}
@@ -11,7 +11,4 @@ abbrev pub row : List ℕ → ℕ → List ℕ
 row w a = line (seconds_values w a)
 
 abbrev pub invariant-loop-a : goal.invariant-loop-a
-invariant-loop-a l = (l.a ≤ l.m) × Stored l.initial.out l.initial.p (rows l.a (row l.seconds)) l.out l.p
-
-abbrev pub decreases-loop-a : goal.decreases-loop-a
-decreases-loop-a l = l.m - l.a
+invariant-loop-a l = Stored l.initial.out l.initial.p (rows l.a (row l.seconds)) l.out l.p

@@ -1,7 +1,7 @@
 -- The loops of `blocks::writing::put_leading_rows`.
 use mathlib.Core.Path.{◌≡◌}
 use mathlib.Core.List.{List}
-use Prim.Native.Nat.{ℕ, ◌-◌, ◌≤◌}
+use Prim.Native.Nat.{ℕ}
 use lib.ListN.{length}
 use Rattle.slices.specs.Tables.{rows}
 use Rattle.packed.specs.Layout.{decode}
@@ -14,7 +14,4 @@ abbrev pub row : List ℕ → ℕ → List ℕ
 row sheet q = line (leading_values_of (decode sheet) q)
 
 abbrev pub invariant-loop-q : goal.invariant-loop-q
-invariant-loop-q l = (l.q ≤ l.n) × (length l.row ≡ 35) × Stored l.initial.out l.at (rows l.q (row l.sheet)) l.out l.p
-
-abbrev pub decreases-loop-q : goal.decreases-loop-q
-decreases-loop-q l = l.n - l.q
+invariant-loop-q l = (length l.row ≡ 35) × Stored l.initial.out l.at (rows l.q (row l.sheet)) l.out l.p

@@ -1,5 +1,4 @@
 -- The loops of `boolean::flipping::flip_marks`.
-use Prim.Native.Nat.{◌-◌}
 use lib.ListN.{length}
 use Rattle.slices.proofs.Filling.{Filling}
 use Rattle.boolean.specs.Pieces.{flipped_mark}
@@ -7,6 +6,3 @@ use Rattle.boolean.proofs.flipping.flip_marks.Given as goal
 
 abbrev pub invariant-loop-i : goal.invariant-loop-i
 invariant-loop-i l = Filling (length l.marks) (flipped_mark l.marks) l.initial.out l.out l.i
-
-abbrev pub decreases-loop-i : goal.decreases-loop-i
-decreases-loop-i l = length l.marks - l.i

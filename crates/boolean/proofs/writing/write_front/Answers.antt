@@ -44,7 +44,7 @@ write_table-requires c =
     let P = c.requires.pair in
     let t = c.leads-t.result in
     let h = c.requires.letters_in_bounds in
-    let g = begun_more (tab z.pairs (pair_size b d)) _ (begun-counts c.narrow.result c.narrow-2.result c.args.out.now (omega (arith, h))) refl (omega (arith, h, length-tab z.pairs (pair_size b d))) c.write_sizes.ensures in (
+    let g = begun_more (tab z.pairs (pair_size b d)) _ (begun-counts z.letters z.pairs c.args.out.now (omega (arith, h))) refl (omega (arith, h, length-tab z.pairs (pair_size b d))) c.write_sizes.ensures in (
       subst₂ (λ (t : Beside) (m : ℕ). Steps b d t m) (sym c.leads-t.ensures) (sym (ap (λ (z : PairSizes). z.pairs) P.1)) (lead-steps P.0.alike),
       (front-few P.0 P.1).0,
       omega (
@@ -64,7 +64,7 @@ returns c =
     let P = c.requires.pair in
     let t = c.leads-t.result in
     let h = c.requires.letters_in_bounds in
-    let g = begun_more (tab z.pairs (pair_size b d)) _ (begun-counts c.narrow.result c.narrow-2.result c.args.out.now (omega (arith, h))) refl (omega (arith, h, length-tab z.pairs (pair_size b d))) c.write_sizes.ensures in
-    (begun_more (table z.pairs t.letters (next_pair_of b d t)) _ g (both-length c.narrow.result c.narrow-2.result z.pairs (pair_size b d))
+    let g = begun_more (tab z.pairs (pair_size b d)) _ (begun-counts z.letters z.pairs c.args.out.now (omega (arith, h))) refl (omega (arith, h, length-tab z.pairs (pair_size b d))) c.write_sizes.ensures in
+    (begun_more (table z.pairs t.letters (next_pair_of b d t)) _ g (both-length z.letters z.pairs z.pairs (pair_size b d))
     (omega (arith, lead-length b d P.1 c.leads-t.ensures, h)) c.write_table.ensures).cells
-    ∙ ap (λ (l : List ℕ). written l c.args.out.now) (front-is b d P.1 c.leads-t.ensures c.narrow.ensures c.narrow-2.ensures)
+    ∙ ap (λ (l : List ℕ). written l c.args.out.now) (front-is b d P.1 c.leads-t.ensures refl refl)

@@ -1,5 +1,4 @@
 -- The loops of `buchi_import::filling::put_parts`.
-use Prim.Native.Nat.{◌-◌, ◌≤◌}
 use Rattle.slices.specs.Tables.{rows}
 use Rattle.fdfa.specs.Buchi.{from_buchi}
 use Rattle.packed.specs.Layout.{part_bytes}
@@ -8,7 +7,4 @@ use Rattle.buchi_import.specs.Steps.{automaton_in}
 use Rattle.buchi_import.proofs.filling.put_parts.Given as goal
 
 abbrev pub invariant-loop-q : goal.invariant-loop-q
-invariant-loop-q l = (l.q ≤ l.n) × Stored l.initial.out l.at (rows l.q (part_bytes (from_buchi (automaton_in l.s l.n l.targets l.finals)))) l.out l.w
-
-abbrev pub decreases-loop-q : goal.decreases-loop-q
-decreases-loop-q l = l.n - l.q
+invariant-loop-q l = Stored l.initial.out l.at (rows l.q (part_bytes (from_buchi (automaton_in l.s l.n l.targets l.finals)))) l.out l.w

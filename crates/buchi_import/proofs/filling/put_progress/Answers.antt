@@ -1,46 +1,41 @@
 -- `buchi_import::filling::put_progress` meets its contract. Assumes nothing.
-use mathlib.Core.Path.{◌≡◌, ap, sym, ◌∙◌}
+use mathlib.Core.Path.{◌≡◌, ap}
 use mathlib.Core.List.{List, [], ◌∷◌}
-use Prim.Native.Nat.{ℕ, ◌*◌, ◌/◌, ◌%◌}
+use Prim.Native.Nat.{ℕ}
 use native.Mathlib.Omega.{arith}
-use native.Mathlib.Nat.{mod-lt, div-lt_iff_lt-mul}
+use lib.Arith.{digits_lt}
 use Rattle.slices.specs.Tables.{tab}
-use Rattle.slices.proofs.Tables.{length-tab}
+use Rattle.slices.proofs.Tables.{length-tab, length-table}
 use Rattle.fdfa.specs.Buchi.{from_buchi}
-use Rattle.numbers.proofs.Stores.{stored-none-tab, stored-entry, stored-as}
+use Rattle.numbers.proofs.Stores.{stored-none-tab, stored-none-rows, stored-entry, stored_row, stored-as}
 use Rattle.buchi_import.specs.Steps.{automaton_in}
-use Rattle.buchi_import.proofs.Sheets.{few_pairs, table-entries}
-use borrow.Author.Rules.{rules}
+use Rattle.buchi_import.proofs.Sheets.{few_pairs}
 use Rattle.buchi_import.proofs.filling.put_progress.Goals as goal
 
--- entry i of the table of q
-abbrev entry : ℕ → ℕ → List ℕ → List ℕ → ℕ → ℕ → ℕ
-entry s n ts ms q i = (from_buchi (automaton_in s n ts ms)).progress q (i / s) (i % s)
+-- where q goes
+abbrev next : ℕ → ℕ → List ℕ → List ℕ → ℕ → ℕ → ℕ → ℕ
+next s n ts fs q = (from_buchi (automaton_in s n ts fs)).progress q
 
-pub overflow_mul-count-2 : goal.overflow_mul-count-2
-overflow_mul-count-2 c = omega (arith, few_pairs c.requires.0.few_states c.requires.0.few_letters)
+pub loop-p-init : goal.loop-p-init
+loop-p-init c = stored-none-rows _ _ _
 
-pub loop-i-init : goal.loop-i-init
-loop-i-init c = (search rules, stored-none-tab _ _ _)
-
-pub next_pair-requires : goal.next_pair-requires
-next_pair-requires c =
-    let h = c.requires.0 in
-    (h, c.requires.1, (div-lt_iff_lt-mul {k = c.args.s} h.some_letters).1 c.loop-i-test.true, mod-lt c.loop-i.i h.some_letters)
-
-pub narrow-requires : goal.narrow-requires
-narrow-requires c = c.next_pair.ensures.1
+pub loop-a-init : goal.loop-a-init
+loop-a-init c = stored-none-tab _ _ _
 
 pub put-w-requires : goal.put-w-requires
 put-w-requires c =
-    omega (arith, c.loop-i.invariant.0, c.loop-i.invariant.1.next, length-tab c.loop-i.i (entry c.args.s c.args.n c.args.targets.now c.args.finals.now c.args.q), few_pairs c.requires.0.few_states c.requires.0.few_letters, c.requires.2)
+    let s = c.args.s in
+    let p = c.loop-p.p in
+    let f = next s c.args.n c.args.targets.now c.args.finals.now c.args.q in
+    omega (arith, length-table p s f, length-tab c.loop-a.a (f p), digits_lt c.loop-p-test.true c.loop-a-test.true, few_pairs c.requires.0.few_states c.requires.0.few_letters)
 
-pub loop-i-preserved : goal.loop-i-preserved
-loop-i-preserved c =
-    let v : c.narrow.result ≡ entry c.args.s c.args.n c.args.targets.now c.args.finals.now c.args.q c.loop-i.i = ◌∙◌ {c = entry c.args.s c.args.n c.args.targets.now c.args.finals.now c.args.q c.loop-i.i} c.narrow.ensures c.next_pair.ensures.0 in
-    (search rules, stored-entry c.loop-i.i (entry c.args.s c.args.n c.args.targets.now c.args.finals.now c.args.q) c.loop-i.invariant.1 (stored-as (λ k. v k ∷ []) c.put-w.ensures))
+pub loop-a-preserved : goal.loop-a-preserved
+loop-a-preserved c =
+    let f = next c.args.s c.args.n c.args.targets.now c.args.finals.now c.args.q in
+    stored-entry c.loop-a.a (f c.loop-p.p) c.loop-a.invariant (stored-as (λ k. c.next_pair.ensures.0 k ∷ []) c.put-w.ensures)
 
-pub returns : goal.returns
-returns c =
-    let e : c.loop-i.i ≡ 2 * c.args.n * c.args.s = omega (arith, c.loop-i-test.false, c.loop-i.invariant.0) in
-    stored-as (ap (λ (k : ℕ). tab k (entry c.args.s c.args.n c.args.targets.now c.args.finals.now c.args.q)) e ∙ sym (table-entries (2 * c.args.n) c.args.s ((from_buchi (automaton_in c.args.s c.args.n c.args.targets.now c.args.finals.now)).progress c.args.q))) c.loop-i.invariant.1
+pub loop-p-preserved : goal.loop-p-preserved
+loop-p-preserved c =
+    let f = next c.args.s c.args.n c.args.targets.now c.args.finals.now c.args.q in
+    let e : c.loop-a.a ≡ c.args.s = omega arith in
+    stored_row c.loop-p.p (λ p. tab c.args.s (f p)) c.loop-p.invariant (stored-as (ap (λ (k : ℕ). tab k (f c.loop-p.p)) e) c.loop-a.invariant)

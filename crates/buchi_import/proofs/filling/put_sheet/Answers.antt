@@ -23,7 +23,7 @@ sized n x y z h a b d = omega (arith, length-tab n (λ q. 2 * n))
 pub put_leading-d-requires : goal.put_leading-d-requires
 put_leading-d-requires c =
     let h = c.requires in
-    (h.moves, few _ _ _ _ c.requires, omega (arith, sized c.args.n _ _ _ c.requires.few_states c.put-a.ensures.next c.put-b.ensures.next c.put_sizes-c.ensures.next), λ i l. omega (arith, h.targets i l, h.few_states))
+    (h.moves, few _ _ _ _ h, omega (arith, sized c.args.n _ _ _ h.few_states c.put-a.ensures.next c.put-b.ensures.next c.put_sizes-c.ensures.next), λ i l. omega (arith, h.targets i l, h.few_states))
 
 pub put_parts-requires : goal.put_parts-requires
 put_parts-requires c =
@@ -31,11 +31,11 @@ put_parts-requires c =
 
 pub returns : goal.returns
 returns c =
+    let s = c.args.s in
     let n = c.args.n in
-    let v = c.narrow.ensures in
-    let w = c.narrow-2.ensures in
-    let two = stored-then (c.args.s ∷ []) (n ∷ []) (stored-as (λ k. v k ∷ []) c.put-a.ensures) (stored-as (λ k. w k ∷ []) c.put-b.ensures) in
-    let steps = stored-as (sym (table-tab n c.args.s (λ i. get_or c.args.targets.now i 0))) c.put_leading-d.ensures in
-    stored-then (front_bytes (from_buchi (automaton_in c.args.s c.args.n c.args.targets.now c.args.finals.now))) (rows n (part_bytes (from_buchi (automaton_in c.args.s c.args.n c.args.targets.now c.args.finals.now))))
-    (stored-then ((c.args.s ∷ n ∷ []) ++ tab n (from_buchi (automaton_in c.args.s c.args.n c.args.targets.now c.args.finals.now)).size) (table n c.args.s (from_buchi (automaton_in c.args.s c.args.n c.args.targets.now c.args.finals.now)).step) (stored-then (c.args.s ∷ n ∷ []) (tab n (from_buchi (automaton_in c.args.s c.args.n c.args.targets.now c.args.finals.now)).size) two c.put_sizes-c.ensures) steps)
+    let f = from_buchi (automaton_in s n c.args.targets.now c.args.finals.now) in
+    let two = stored-then (s ∷ []) (n ∷ []) c.put-a.ensures c.put-b.ensures in
+    let steps = stored-as (sym (table-tab n s (λ i. get_or c.args.targets.now i 0))) c.put_leading-d.ensures in
+    stored-then (front_bytes f) (rows n (part_bytes f))
+    (stored-then ((s ∷ n ∷ []) ++ tab n f.size) (table n s f.step) (stored-then (s ∷ n ∷ []) (tab n f.size) two c.put_sizes-c.ensures) steps)
     c.put_parts.ensures

@@ -1,4 +1,5 @@
 -- `buchi_import::single::read_last` meets its contract. Assumes nothing.
+use Rattle.slices.proofs.Refusals.{handed}
 use mathlib.Core.Path.{ap, sym, ◌∙◌}
 use mathlib.Core.List.{List, [], ◌∷◌}
 use Prim.Native.Nat.{ℕ, ◌≤◌}
@@ -7,7 +8,6 @@ use Rattle.slices.specs.declared.Part.TheVariants.{First}
 use Rattle.format.specs.declared.Column.{Column}
 use Rattle.format.specs.Format.{Format, after, reading, literal}
 use Rattle.format.specs.Lines.{labelled}
-use Rattle.format.specs.Steps.{step_says}
 use Rattle.format.proofs.Fixed.{fixed-literal}
 use Rattle.format.proofs.Steps.{placed-refused}
 use Rattle.format.proofs.Following.{step-read, cell-within, cell-lost, cell-got}
@@ -19,18 +19,18 @@ feed vs = literal (10 ∷ [])
 abbrev cell : List ℕ → Column → Format
 cell word column = labelled word (λ v. column) 93
 
-pub returns-in-Refused : goal.returns-in-Refused
-returns-in-Refused c =
-    sym (cell-lost First c.args.text.now (cell c.args.word.now c.args.column) c.args.at c.read_labelled-state.ensures feed c.in-Refused.is)
+pub returns-in_err-state : goal.returns-in_err-state
+returns-in_err-state c = rw (handed c.from_residual.ensures)
+    (sym (cell-lost First c.args.text.now (cell c.args.word.now c.args.column) c.args.at c.read_labelled.ensures feed c.in_err-state.was))
 
 -- the state was read, up to the bracket: the line feed is left
-pub returns-in-Refused-step : goal.returns-in-Refused-step
-returns-in-Refused-step c =
-    let rest = cell-got First c.args.text.now (cell c.args.word.now c.args.column) c.args.at c.read_labelled-state.ensures feed c.in-Read.is in
-    sym (rest ∙ ap (after (c.in-Read.v ∷ [])) (placed-refused (reading First c.args.text.now (literal (10 ∷ [])) c.in-Read.e) (sym c.read_literal-step.ensures ∙ ap step_says c.in-Refused-step.is)))
+pub returns-in_err-next : goal.returns-in_err-next
+returns-in_err-next c = rw (handed c.from_residual-in_err-next.ensures)
+    (let rest = cell-got First c.args.text.now (cell c.args.word.now c.args.column) c.args.at c.read_labelled.ensures feed c.in_ok-state.was in
+    sym (rest ∙ ap (after (c.in_ok-state.state.value ∷ [])) (placed-refused (reading First c.args.text.now (literal (10 ∷ [])) c.in_ok-state.state.next) (sym c.read_literal.ensures ∙ c.in_err-next.was))))
 
-pub returns-in-Next : goal.returns-in-Next
-returns-in-Next c =
-    let rest = cell-got First c.args.text.now (cell c.args.word.now c.args.column) c.args.at c.read_labelled-state.ensures feed c.in-Read.is in
-    let within : c.in-Read.e ≤ length c.args.text.now = cell-within First c.args.text.now (cell c.args.word.now c.args.column) c.args.at c.read_labelled-state.ensures c.requires c.in-Read.is in
-    sym (rest ∙ ap (after (c.in-Read.v ∷ [])) (step-read First c.args.text.now (fixed-literal (10 ∷ [])) feed c.in-Read.e c.read_literal-step.ensures within c.in-Next.is))
+pub returns : goal.returns
+returns c =
+    let rest = cell-got First c.args.text.now (cell c.args.word.now c.args.column) c.args.at c.read_labelled.ensures feed c.in_ok-state.was in
+    let within : c.in_ok-state.state.next ≤ length c.args.text.now = cell-within First c.args.text.now (cell c.args.word.now c.args.column) c.args.at c.read_labelled.ensures c.requires c.in_ok-state.was in
+    sym (rest ∙ ap (after (c.in_ok-state.state.value ∷ [])) (step-read First c.args.text.now (fixed-literal (10 ∷ [])) feed c.in_ok-state.state.next c.read_literal.ensures within c.in_ok-next.was))

@@ -1,21 +1,12 @@
 -- `c_show::reading::lasso_numbers` meets its contract. Assumes nothing.
-use mathlib.Core.Path.{ap, sym, ◌∙◌}
-use mathlib.Core.List.{[], ◌∷◌}
-use Prim.Native.Nat.{ℕ}
+use Rattle.std.proofs.Common.{rules}
 use Rattle.slices.specs.Tables.{tab}
-use Rattle.lasso_text.specs.declared.Lengths.{Lengths}
-use Rattle.lasso_text.specs.Reading.{lengths_say}
-use Rattle.answers.specs.Layout.{numbers_of, padded}
-use Rattle.c_show.specs.Numbers.{lasso_numbers_of}
 use Rattle.c_show.proofs.reading.lasso_numbers.Goals as goal
 
-pub returns-in-Filled : goal.returns-in-Filled
+pub returns-in-Ok : goal.returns-in-Ok
 unfolding tab
-returns-in-Filled c =
-    ap (λ (x : Lengths). padded 3 (numbers_of lasso_numbers_of (lengths_say x))) (sym c.in-Filled.is)
+returns-in-Ok c = search rules
 
-pub returns-in-Refused : goal.returns-in-Refused
+pub returns-in-Err : goal.returns-in-Err
 unfolding tab
-returns-in-Refused c =
-    ap (λ (p : ℕ). c.in-Refused.r.number ∷ p ∷ c.in-Refused.r.place ∷ []) c.part_number.ensures
-    ∙ ap (λ (x : Lengths). padded 3 (numbers_of lasso_numbers_of (lengths_say x))) (sym c.in-Refused.is)
+returns-in-Err c = search rules

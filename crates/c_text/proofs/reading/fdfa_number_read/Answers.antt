@@ -1,9 +1,11 @@
 -- `c_text::reading::fdfa_number_read` meets its contract. Assumes nothing.
+use Rattle.std.specs.Prelude.{Result}
+use Rattle.slices.specs.declared.Refusal.{Refusal}
 use mathlib.Core.Path.{ap, ◌∙◌}
 use Rattle.numbers.specs.declared.Number.{Number}
 use Rattle.answers.specs.Layout.{numbers_of, padded}
 use Rattle.answers.proofs.Telling.{told-short, told-long}
-use Rattle.c_text.specs.Numbers.{number_result, read_numbers}
+use Rattle.c_text.specs.Numbers.{read_numbers}
 use Rattle.c_text.proofs.reading.fdfa_number_read.Goals as goal
 
 pub returns-then-answer-lt-ANSWER : goal.returns-then-answer-lt-ANSWER
@@ -12,4 +14,4 @@ returns-then-answer-lt-ANSWER c = told-short 3 _ _ c.if-answer-lt-ANSWER.true
 pub returns : goal.returns
 returns c =
     told-long 3 _ _ c.if-answer-lt-ANSWER.false
-    (c.number_numbers-told.ensures ∙ ap (λ (x : Number). padded 3 (numbers_of read_numbers (number_result x))) c.read_number-number.ensures) c.tell.ensures
+    (c.number_numbers.ensures ∙ ap (λ (x : Result Number Refusal). padded 3 (numbers_of read_numbers x)) c.read_number-number.ensures) c.tell.ensures

@@ -7,4 +7,4 @@ returns-then-answer-lt-ANSWER c = sheet-short _ _ _ _ c.if-answer-lt-ANSWER.true
 
 pub returns : goal.returns
 returns c =
-    sheet-long _ _ _ _ c.if-answer-lt-ANSWER.false c.read-levelled.ensures c.sheet_numbers-told.ensures c.tell.ensures
+    sheet-long _ _ _ _ c.if-answer-lt-ANSWER.false c.read-sheet.ensures c.sheet_numbers.ensures c.tell.ensures

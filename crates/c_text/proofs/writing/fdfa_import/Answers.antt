@@ -7,4 +7,4 @@ returns-then-answer-lt-ANSWER c = fill-short _ _ _ _ c.if-answer-lt-ANSWER.true
 
 pub returns : goal.returns
 returns c =
-    fill-long _ _ _ _ c.if-answer-lt-ANSWER.false c.import-filled.ensures c.fill_numbers-told.ensures c.tell.ensures
+    fill-long _ _ _ _ c.if-answer-lt-ANSWER.false c.import-filled.ensures c.fill_numbers.ensures c.tell.ensures

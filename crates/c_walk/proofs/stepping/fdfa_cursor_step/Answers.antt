@@ -1,6 +1,7 @@
 -- `c_walk::stepping::fdfa_cursor_step` meets its contract. Assumes nothing.
 use mathlib.Core.Path.{ap, ◌∙◌}
-use Rattle.cursor.specs.Walking.{Stepped, stepped}
+use Rattle.cursor.specs.declared.Step.{Step}
+use Rattle.cursor.specs.Walking.{stepped}
 use Rattle.answers.specs.Layout.{numbers_of, padded}
 use Rattle.answers.proofs.Telling.{told-short, told-long}
 use Rattle.c_walk.specs.Cursors.{step_result, moved_numbers}
@@ -13,6 +14,6 @@ pub returns : goal.returns
 returns c =
     told-long 4 _ _ c.if-answer-lt-STEP.false
     (c.step_numbers-numbers.ensures
-    ∙ ap (λ (x : Stepped). padded 4 (numbers_of moved_numbers (step_result x)))
+    ∙ ap (λ (x : Step). padded 4 (numbers_of moved_numbers (step_result x)))
     (c.step-step.ensures ∙ (λ i. stepped (c.cursor_of-c.ensures i) (c.prefix_for.ensures i) c.args.period.now)))
     c.tell.ensures

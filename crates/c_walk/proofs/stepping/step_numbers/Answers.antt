@@ -3,10 +3,6 @@ use Rattle.std.proofs.Common.{rules}
 use Rattle.slices.specs.Tables.{tab}
 use Rattle.c_walk.proofs.stepping.step_numbers.Goals as goal
 
-pub returns-in-Passed : goal.returns-in-Passed
+pub returns-in-Ok : goal.returns-in-Ok
 unfolding tab
-returns-in-Passed c = search rules
-
-pub returns-in-Refused : goal.returns-in-Refused
-unfolding tab
-returns-in-Refused c = search rules
+returns-in-Ok c = rw c.in-Ok.is (search rules)

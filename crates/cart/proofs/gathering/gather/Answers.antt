@@ -3,9 +3,6 @@ use native.Mathlib.Omega.{arith}
 use Rattle.cart.proofs.Wordings.{sourced-none}
 use Rattle.cart.proofs.gathering.gather.Goals as goal
 
-pub start-requires : goal.start-requires
-start-requires c = omega arith
-
 pub loop-i-init : goal.loop-i-init
 loop-i-init c =
     (omega arith, omega arith, c.start.ensures.1.0, omega (arith, c.start.ensures.1.0, c.start.ensures.1.1), omega arith, omega arith, sourced-none c.args.said.now c.start.ensures.0)
@@ -13,12 +10,6 @@ loop-i-init c =
 pub add_file-gathered-requires : goal.add_file-gathered-requires
 add_file-gathered-requires c =
     (c.loop-i.invariant.0, c.loop-i.invariant.1, omega arith, c.loop-i.invariant.3, c.loop-i.invariant.4, c.loop-i.invariant.6)
-
-pub overflow_add-i : goal.overflow_add-i
-overflow_add-i c = omega arith
-
-pub loop-i-smaller : goal.loop-i-smaller
-loop-i-smaller c = omega arith
 
 pub loop-i-preserved : goal.loop-i-preserved
 loop-i-preserved c =

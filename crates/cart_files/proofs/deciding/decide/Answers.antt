@@ -1,15 +1,10 @@
 -- `cart_files::deciding::decide` meets its contract. Assumes nothing.
-use mathlib.Core.Path.{sym}
-use lib.Seq.{length-take-le}
+use Rattle.slices.proofs.Refusals.{handed}
 use Rattle.cart_files.proofs.Decisions.{decided-long, decided-short}
 use Rattle.cart_files.proofs.deciding.decide.Goals as goal
 
-pub slice_bounds-decide_short-end : goal.slice_bounds-decide_short-end
-slice_bounds-decide_short-end c = sym (length-take-le _ _ c.requires)
+pub returns-in_err-check_length : goal.returns-in_err-check_length
+returns-in_err-check_length c = λ ts g. rw (handed c.from_residual.ensures) (decided-long ts g c.args.sheet.now c.in_err-check_length.ensures)
 
-pub returns-in-Refused : goal.returns-in-Refused
-returns-in-Refused c = λ ts g. decided-long ts g c.args.sheet.now c.check_length-judged.ensures c.in-Refused.is
-
-pub returns-in-Good : goal.returns-in-Good
-returns-in-Good c =
-    λ ts g. decided-short ts g c.args.sheet.now c.check_length-judged.ensures c.in-Good.is c.decide_short.ensures
+pub returns : goal.returns
+returns c = λ ts g. decided-short ts g c.args.sheet.now c.in_ok-check_length.ensures c.decide_short.ensures

@@ -11,31 +11,10 @@ pub loop-i-init : goal.loop-i-init
 loop-i-init c =
     record { upto = omega arith; few = omega (arith, c.byte_at-count.ensures.1); bound = omega arith; same = ap (λ (n : ℕ). scene_from c.args.cart.now 1 0 n c.args.place) (omega arith) }
 
-pub overflow_add-prefix : goal.overflow_add-prefix
-overflow_add-prefix c = omega arith
-
-pub overflow_add-period : goal.overflow_add-period
-overflow_add-period c = omega arith
-
-pub overflow_add-at : goal.overflow_add-at
-overflow_add-at c = omega arith
-
-pub overflow_add-end : goal.overflow_add-end
-overflow_add-end c = omega arith
-
-pub scene_in-requires : goal.scene_in-requires
-scene_in-requires c = omega arith
-
 pub returns-then-place-end : goal.returns-then-place-end
 returns-then-place-end c =
     let e = sought-here c.args.cart.now c.loop-i.at c.loop-i.i (c.byte_at-count.result - (c.loop-i.i + 1)) c.args.place c.length_at.ensures.0 c.length_at-in-loop-i.ensures.0 {k = c.byte_at-count.result - c.loop-i.i} (omega arith) c.if-place-end.true c.scene_in.ensures in
     (e ∙ (c.loop-i.invariant.same ∙ ap (λ (n : ℕ). scene_from c.args.cart.now 1 0 n c.args.place) c.byte_at-count.ensures.0), omega (arith, ap (λ (x : Scene). x.openings) c.scene_in.ensures, c.length_at.ensures.1))
-
-pub overflow_add-i : goal.overflow_add-i
-overflow_add-i c = omega arith
-
-pub loop-i-smaller : goal.loop-i-smaller
-loop-i-smaller c = omega arith
 
 pub loop-i-preserved : goal.loop-i-preserved
 loop-i-preserved c =

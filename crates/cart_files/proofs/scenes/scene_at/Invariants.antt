@@ -1,10 +1,6 @@
 -- The loops of `cart_files::scenes::scene_at`.
-use Prim.Native.Nat.{◌-◌}
 use Rattle.cart_files.proofs.Sought.{Seeking}
 use Rattle.cart_files.proofs.scenes.scene_at.Given as goal
 
 abbrev pub invariant-loop-i : goal.invariant-loop-i
 invariant-loop-i l = Seeking l.cart l.place l.count l.at l.i
-
-abbrev pub decreases-loop-i : goal.decreases-loop-i
-decreases-loop-i l = l.count - l.i

@@ -1,4 +1,5 @@
 -- `carts::judging::check_show` meets its contract: the prefix, then the period. Assumes nothing.
+use Rattle.slices.specs.declared.Reason.TheVariants.{EmptyLoop, UnknownLetter}
 use mathlib.Core.Path.{◌≡◌, ap, ap₂, sym, ◌∙◌}
 use mathlib.Core.List.{List}
 use Prim.Native.Nat.{ℕ, ◌+◌, ◌-◌, ◌≤◌}
@@ -42,7 +43,7 @@ pub returns-then-i-m : goal.returns-then-i-m
 returns-then-i-m c =
     let e = lies c.args.cart.now c.args.at c.locate-span.ensures in
     ap fault c.refuse.ensures
-    ∙ (ap (λ (o : ℕ). fault_of 9 Opening (o + c.first_outside-i.result)) e.0 ∙ sym (bad-prefix _ _ _ (stops c.args.cart.now c.args.at c.args.letters c.locate-span.ensures c.first_outside-i.ensures) (omega (arith, e.0, e.1, c.if-i-m.true))))
+    ∙ (ap (λ (o : ℕ). fault_of UnknownLetter Opening (o + c.first_outside-i.result)) e.0 ∙ sym (bad-prefix _ _ _ (stops c.args.cart.now c.args.at c.args.letters c.locate-span.ensures c.first_outside-i.ensures) (omega (arith, e.0, e.1, c.if-i-m.true))))
 
 pub overflow_sub-n : goal.overflow_sub-n
 overflow_sub-n c = let e = lies c.args.cart.now c.args.at c.locate-span.ensures in omega (arith, e.1, e.2)
@@ -50,7 +51,7 @@ overflow_sub-n c = let e = lies c.args.cart.now c.args.at c.locate-span.ensures 
 pub returns-then-n-eq0 : goal.returns-then-n-eq0
 returns-then-n-eq0 c =
     let e = lies c.args.cart.now c.args.at c.locate-span.ensures in
-    ap fault c.refuse-then-n-eq0.ensures ∙ (ap (fault_of 8 Loop) e.1 ∙ sym (no-period _ _ _ (stops c.args.cart.now c.args.at c.args.letters c.locate-span.ensures c.first_outside-i.ensures) (passes c.args.cart.now c.args.at c.args.letters c.locate-span.ensures c.first_outside-i.ensures c.if-i-m.false) (omega (arith, e.1, e.2, c.if-n-eq0.true))))
+    ap fault c.refuse-then-n-eq0.ensures ∙ (ap (fault_of EmptyLoop Loop) e.1 ∙ sym (no-period _ _ _ (stops c.args.cart.now c.args.at c.args.letters c.locate-span.ensures c.first_outside-i.ensures) (passes c.args.cart.now c.args.at c.args.letters c.locate-span.ensures c.first_outside-i.ensures c.if-i-m.false) (omega (arith, e.1, e.2, c.if-n-eq0.true))))
 
 pub first_outside-j-requires : goal.first_outside-j-requires
 first_outside-j-requires c = let e = lies c.args.cart.now c.args.at c.locate-span.ensures in omega (arith, e.1, e.2, c.requires)
@@ -59,7 +60,7 @@ pub returns-then-j-n : goal.returns-then-j-n
 returns-then-j-n c =
     let e = lies c.args.cart.now c.args.at c.locate-span.ensures in
     ap fault c.refuse-then-j-n.ensures
-    ∙ (ap (λ (p : ℕ). fault_of 9 Loop (p + c.first_outside-j.result)) e.1
+    ∙ (ap (λ (p : ℕ). fault_of UnknownLetter Loop (p + c.first_outside-j.result)) e.1
     ∙ sym (bad-period _ _ _ (stops c.args.cart.now c.args.at c.args.letters c.locate-span.ensures c.first_outside-i.ensures) (passes c.args.cart.now c.args.at c.args.letters c.locate-span.ensures c.first_outside-i.ensures c.if-i-m.false) (some c.args.cart.now c.args.at c.args.letters c.locate-span.ensures c.if-n-eq0.false) (ends c.args.cart.now c.args.at c.args.letters c.locate-span.ensures c.first_outside-j.ensures) (omega (arith, e.1, e.2, c.if-j-n.true))))
 
 pub returns : goal.returns

@@ -23,25 +23,24 @@ past b at i count inv h k =
 next : (b : List ℕ) (at : ℕ) {z : Span} → z ≡ span_of b at → z.end ≡ end_at b at
 next b at e = ap (λ (z : Span). z.end) e
 
-pub loop-i-init : goal.loop-i-init
-loop-i-init c = (omega arith, omega arith, ap (end_from c.args.cart.now 1) (all_left c.args.count))
+pub loop-init : goal.loop-init
+loop-init c = (omega arith, ap (end_from c.args.cart.now 1) (all_left c.args.count))
 
 pub returns-then-cart-at-lt4 : goal.returns-then-cart-at-lt4
-returns-then-cart-at-lt4 c = sym (past c.args.cart.now c.loop-i.at c.loop-i.i c.args.count c.loop-i.invariant.2 c.loop-i-test.true (omega (arith, c.loop-i.invariant.1, c.if-cart-at-lt4.true)))
+returns-then-cart-at-lt4 c = sym (past c.args.cart.now c.loop.at c.loop.counter c.args.count c.loop.invariant.1 (omega arith) (omega (arith, c.loop.invariant.0, c.if-cart-at-lt4.true)))
 
 pub locate-at-requires : goal.locate-at-requires
-locate-at-requires c = omega (arith, c.loop-i.invariant.1, c.if-cart-at-lt4.false)
+locate-at-requires c = omega (arith, c.loop.invariant.0, c.if-cart-at-lt4.false)
 
 pub returns-then-cart-at : goal.returns-then-cart-at
-returns-then-cart-at c = sym (past c.args.cart.now c.loop-i.at c.loop-i.i c.args.count c.loop-i.invariant.2 c.loop-i-test.true (omega (arith, next c.args.cart.now c.loop-i.at c.locate-at.ensures, c.if-cart-at.true)))
+returns-then-cart-at c = sym (past c.args.cart.now c.loop.at c.loop.counter c.args.count c.loop.invariant.1 (omega arith) (omega (arith, next c.args.cart.now c.loop.at c.locate-at.ensures, c.if-cart-at.true)))
 
-pub loop-i-preserved : goal.loop-i-preserved
-loop-i-preserved c = (
-  omega arith,
-  omega (arith, next c.args.cart.now c.loop-i.at c.locate-at.ensures, c.if-cart-at.false),
-  ap (λ (p : ℕ). end_from c.args.cart.now p (c.args.count - (c.loop-i.i + 1))) (next c.args.cart.now c.loop-i.at c.locate-at.ensures) ∙ (sym (end-next c.args.cart.now c.loop-i.at c.loop-i-test.true) ∙ c.loop-i.invariant.2),
+pub loop-preserved : goal.loop-preserved
+loop-preserved c = (
+  omega (arith, next c.args.cart.now c.loop.at c.locate-at.ensures, c.if-cart-at.false),
+  ap (λ (p : ℕ). end_from c.args.cart.now p (c.args.count - (c.loop.counter + 1))) (next c.args.cart.now c.loop.at c.locate-at.ensures) ∙ (sym (end-next c.args.cart.now c.loop.at (omega arith)) ∙ c.loop.invariant.1),
 )
 
 pub returns : goal.returns
 returns c =
-    ap (λ (p : ℕ). eqb p (length c.args.cart.now)) (sym (end-last c.args.cart.now c.loop-i.at c.loop-i-test.false) ∙ c.loop-i.invariant.2)
+    ap (λ (p : ℕ). eqb p (length c.args.cart.now)) (sym (end-last c.args.cart.now c.loop.at (omega arith)) ∙ c.loop.invariant.1)

@@ -14,32 +14,30 @@ use Rattle.carts.proofs.verdicts.first_rejected.Goals as goal
 pub loop-i-init : goal.loop-i-init
 loop-i-init c =
     let e = all_left c.args.count in (
-      omega arith,
       subst (GoodShows c.args.sheet.now c.args.cart.now 1) (sym e) c.requires,
       omega (arith, ap (λ (n : ℕ). first_rejected_of (decode c.args.sheet.now) (shows_from c.args.cart.now 1 n)) e),
     )
 
 pub is_accepted-requires : goal.is_accepted-requires
 is_accepted-requires c =
-    (next-within c.loop-i.invariant.1 c.loop-i-test.true, next-judged c.loop-i.invariant.1 c.loop-i-test.true)
+    (next-within c.loop-i.invariant.0 (omega arith), next-judged c.loop-i.invariant.0 (omega arith))
 
 pub returns-then-not-is_accepted : goal.returns-then-not-is_accepted
 returns-then-not-is_accepted c =
-    rejected-here (decode c.args.sheet.now) c.args.cart.now c.loop-i.at c.loop-i.i _ c.loop-i.invariant.2 c.loop-i-test.true c.is_accepted.ensures c.if-not-is_accepted.true
+    rejected-here (decode c.args.sheet.now) c.args.cart.now c.loop-i.at c.loop-i.i _ c.loop-i.invariant.1 (omega arith) c.is_accepted.ensures c.if-not-is_accepted.true
 
 pub locate-at-requires : goal.locate-at-requires
-locate-at-requires c = omega (arith, next-within c.loop-i.invariant.1 c.loop-i-test.true)
+locate-at-requires c = omega (arith, next-within c.loop-i.invariant.0 (omega arith))
 
 pub loop-i-preserved : goal.loop-i-preserved
 loop-i-preserved c =
     let e = sym (ap (λ (z : Span). z.end) c.locate-at.ensures) in
     let left = c.args.count - (c.loop-i.i + 1) in (
-      omega arith,
-      subst (λ (p : ℕ). GoodShows c.args.sheet.now c.args.cart.now p left) e (next-good c.loop-i.invariant.1 c.loop-i-test.true),
+      subst (λ (p : ℕ). GoodShows c.args.sheet.now c.args.cart.now p left) e (next-good c.loop-i.invariant.0 (omega arith)),
       ap (λ (p : ℕ). c.loop-i.i + 1 + first_rejected_of (decode c.args.sheet.now) (shows_from c.args.cart.now p left)) (sym e)
-          ∙ accepted-here (decode c.args.sheet.now) c.args.cart.now c.loop-i.at c.loop-i.i _ c.loop-i.invariant.2 c.loop-i-test.true c.is_accepted.ensures c.if-not-is_accepted.false,
+          ∙ accepted-here (decode c.args.sheet.now) c.args.cart.now c.loop-i.at c.loop-i.i _ c.loop-i.invariant.1 (omega arith) c.is_accepted.ensures c.if-not-is_accepted.false,
     )
 
 pub returns : goal.returns
 returns c =
-    accepted-all (decode c.args.sheet.now) c.args.cart.now c.loop-i.at c.loop-i.i _ c.loop-i.invariant.2 c.loop-i.invariant.0 c.loop-i-test.false
+    accepted-all (decode c.args.sheet.now) c.args.cart.now c.loop-i.at c.loop-i.i _ c.loop-i.invariant.1 (omega arith) (omega arith)

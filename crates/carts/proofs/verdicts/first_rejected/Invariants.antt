@@ -1,6 +1,6 @@
--- The loops of `carts::verdicts::first_rejected`.
+-- The loop of `carts::verdicts::first_rejected`.
 use mathlib.Core.Path.{◌≡◌}
-use Prim.Native.Nat.{◌+◌, ◌-◌, ◌≤◌}
+use Prim.Native.Nat.{◌+◌, ◌-◌}
 use Rattle.packed.specs.Layout.{decode}
 use Rattle.carts.specs.Reading.{shows_from}
 use Rattle.carts.specs.Loads.{first_rejected_of}
@@ -8,7 +8,4 @@ use Rattle.carts.specs.Steps.{GoodShows}
 use Rattle.carts.proofs.verdicts.first_rejected.Given as goal
 
 abbrev pub invariant-loop-i : goal.invariant-loop-i
-invariant-loop-i l = (l.i ≤ l.count) × GoodShows l.sheet l.cart l.at (l.count - l.i) × (l.i + first_rejected_of (decode l.sheet) (shows_from l.cart l.at (l.count - l.i)) ≡ first_rejected_of (decode l.sheet) (shows_from l.cart 1 l.count))
-
-abbrev pub decreases-loop-i : goal.decreases-loop-i
-decreases-loop-i l = l.count - l.i
+invariant-loop-i l = GoodShows l.sheet l.cart l.at (l.count - l.i) × (l.i + first_rejected_of (decode l.sheet) (shows_from l.cart l.at (l.count - l.i)) ≡ first_rejected_of (decode l.sheet) (shows_from l.cart 1 l.count))

@@ -4,7 +4,7 @@ use Prim.Native.Nat.{ℕ}
 use lib.ListN.{length}
 use Rattle.slices.specs.declared.Part.TheVariants.{First, Out}
 use Rattle.slices.specs.Refusals.{Fault, ◌then◌, short, unless}
-use Rattle.slices.proofs.Refusals.{passed, failed, refuses, was-given, was-refused}
+use Rattle.slices.proofs.Refusals.{passed, was-given}
 use Rattle.packed.specs.declared.Sizes.{Sizes}
 use Rattle.packed.specs.Layout.{decode}
 use Rattle.packed.specs.Faults.{sheet_fault, sizes_of}
@@ -14,17 +14,12 @@ use Rattle.carts.specs.Loads.{load_by}
 use Rattle.carts.proofs.verdicts.judge.Goals as goal
 
 pub judge_cart-requires : goal.judge_cart-requires
-judge_cart-requires c = ((was-given (sheet_fault First c.args.sheet.now) (sizes_of c.args.sheet.now) c.in-Valid.ensures).0, ap (λ (z : Sizes). z.letters) (was-given (sheet_fault First c.args.sheet.now) (sizes_of c.args.sheet.now) c.in-Valid.ensures).1)
+judge_cart-requires c = ((was-given (sheet_fault First c.args.sheet.now) (sizes_of c.args.sheet.now) c.in_ok-z.ensures).0, ap (λ (z : Sizes). z.letters) (was-given (sheet_fault First c.args.sheet.now) (sizes_of c.args.sheet.now) c.in_ok-z.ensures).1)
 
-pub returns-in-Refused : goal.returns-in-Refused
-returns-in-Refused c =
-    let b = c.args.sheet.now in
-    refuses _ (failed _ (was-refused (sheet_fault First b) (sizes_of b) c.in-Refused.ensures))
-
-pub returns-in-Valid : goal.returns-in-Valid
-returns-in-Valid c =
+pub returns : goal.returns
+returns c =
     let b = c.args.sheet.now in
     let x = load_by (decode b) (shows_of c.args.cart.now) (length c.args.cart.now) in
     c.judge_cart.ensures
-    ∙ (ap (λ (s : ℕ). unless (cart_fault s c.args.cart.now then short Out c.args.room (length c.args.cart.now)) x) (ap (λ (z : Sizes). z.letters) (was-given (sheet_fault First c.args.sheet.now) (sizes_of c.args.sheet.now) c.in-Valid.ensures).1)
-    ∙ ap (λ (f : Fault). unless f x) (sym (passed _ (was-given (sheet_fault First c.args.sheet.now) (sizes_of c.args.sheet.now) c.in-Valid.ensures).0)))
+    ∙ (ap (λ (s : ℕ). unless (cart_fault s c.args.cart.now then short Out c.args.room (length c.args.cart.now)) x) (ap (λ (z : Sizes). z.letters) (was-given (sheet_fault First c.args.sheet.now) (sizes_of c.args.sheet.now) c.in_ok-z.ensures).1)
+    ∙ ap (λ (f : Fault). unless f x) (sym (passed _ (was-given (sheet_fault First c.args.sheet.now) (sizes_of c.args.sheet.now) c.in_ok-z.ensures).0)))

@@ -1,11 +1,13 @@
 -- `carts::verdicts::judge_cart` meets its contract: the cart, the room, the verdicts. Assumes nothing.
+use Rattle.slices.specs.declared.Reason.TheVariants.{TooLittleRoom}
+use Rattle.std.specs.Prelude.{Ok}
 use mathlib.Core.Path.{◌≡◌, ap, sym, ◌∙◌}
 use mathlib.Core.List.{List}
 use Prim.Native.Nat.{ℕ}
 use borrow.Author.Tests.{lt-ltb, le-ltb}
 use Rattle.slices.specs.declared.Part.TheVariants.{First, Out}
 use Rattle.slices.specs.Refusals.{sound, fault}
-use Rattle.slices.proofs.Refusals.{passed, failed, refuses, gives, when-fails, when-passes, then-left, then-right}
+use Rattle.slices.proofs.Refusals.{passed, refuses, gives, when-fails, when-passes, then-left, then-right}
 use Rattle.packed.specs.Layout.{letter_count}
 use Rattle.packed.specs.Faults.{sheet_fault}
 use Rattle.carts.specs.Reading.{count_of}
@@ -24,14 +26,11 @@ good sheet b s h fine = record {
 
 pub returns-then-room-cart : goal.returns-then-room-cart
 returns-then-room-cart c =
-    refuses _ (passed _ (sym c.in-Known.ensures) ∙ (when-fails 21 Out _ (lt-ltb _ _ c.if-room-cart.true) ∙ ap fault (sym c.refuse.ensures)))
+    refuses _ (passed _ (sym c.in_ok-check_cart.ensures) ∙ (when-fails TooLittleRoom Out _ (lt-ltb _ _ c.if-room-cart.true) ∙ ap fault (sym c.refuse.ensures)))
 
 pub judge_shows-requires : goal.judge_shows-requires
-judge_shows-requires c = good c.args.sheet.now c.args.cart.now c.args.letters c.requires (sym c.in-Known.ensures)
+judge_shows-requires c = good c.args.sheet.now c.args.cart.now c.args.letters c.requires (sym c.in_ok-check_cart.ensures)
 
-pub returns-in-Refused : goal.returns-in-Refused
-returns-in-Refused c = refuses _ (failed _ (sym c.in-Refused.ensures))
-
-pub returns-else-room-cart : goal.returns-else-room-cart
-returns-else-room-cart c =
-    c.judge_shows.ensures ∙ gives _ (passed _ (sym c.in-Known.ensures) ∙ when-passes 21 Out _ (le-ltb _ _ c.if-room-cart.false))
+pub returns : goal.returns
+returns c =
+    ap Ok c.judge_shows.ensures ∙ gives _ (passed _ (sym c.in_ok-check_cart.ensures) ∙ when-passes TooLittleRoom Out _ (le-ltb _ _ c.if-room-cart.false))

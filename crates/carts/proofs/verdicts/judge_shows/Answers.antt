@@ -3,7 +3,6 @@ use mathlib.Core.Path.{◌≡◌, ap, sym, subst, ◌∙◌}
 use mathlib.Core.List.{List}
 use Prim.Native.Nat.{ℕ}
 use native.Mathlib.Omega.{arith}
-use Rattle.slices.specs.Refusals.{given}
 use Rattle.packed.specs.Layout.{decode}
 use Rattle.carts.specs.Reading.{count_of, shows_from, shows_of}
 use Rattle.carts.specs.Loads.{first_rejected_of}
@@ -20,12 +19,12 @@ bounds-cart-0 c = omega (arith, end-rises c.args.cart.now 1 (count_of c.args.car
 
 pub first_rejected-i-requires : goal.first_rejected-i-requires
 first_rejected-i-requires c =
-    subst (GoodShows c.args.sheet.now c.args.cart.now 1) (sym c.wide-count.ensures) c.requires
+    subst (GoodShows c.args.sheet.now c.args.cart.now 1) (sym c.from-count.ensures) c.requires
 
 pub returns-then-i-count : goal.returns-then-i-count
 returns-then-i-count c =
-    ap given (is-loaded (decode c.args.sheet.now) (shows_of c.args.cart.now) _ (first c.args.sheet.now c.args.cart.now c.wide-count.ensures c.first_rejected-i.ensures) (c.if-i-count.true ∙ (c.wide-count.ensures ∙ sym (count-shows c.args.cart.now 1 (count_of c.args.cart.now)))))
+    is-loaded (decode c.args.sheet.now) (shows_of c.args.cart.now) _ (first c.args.sheet.now c.args.cart.now c.from-count.ensures c.first_rejected-i.ensures) (c.if-i-count.true ∙ (c.from-count.ensures ∙ sym (count-shows c.args.cart.now 1 (count_of c.args.cart.now))))
 
 pub returns : goal.returns
 returns c =
-    ap given (is-rejected (decode c.args.sheet.now) (shows_of c.args.cart.now) _ (first c.args.sheet.now c.args.cart.now c.wide-count.ensures c.first_rejected-i.ensures) (λ e. c.if-i-count.false (e ∙ (count-shows c.args.cart.now 1 (count_of c.args.cart.now) ∙ sym c.wide-count.ensures))))
+    is-rejected (decode c.args.sheet.now) (shows_of c.args.cart.now) _ (first c.args.sheet.now c.args.cart.now c.from-count.ensures c.first_rejected-i.ensures) (λ e. c.if-i-count.false (e ∙ (count-shows c.args.cart.now 1 (count_of c.args.cart.now) ∙ sym c.from-count.ensures)))

@@ -1,14 +1,15 @@
 -- `compare::text::comparison_text` meets its contract. Assumes nothing.
-use mathlib.Core.Path.{sym}
+use mathlib.Core.Path.{◌≡◌}
 use mathlib.Core.List.{List}
 use Prim.Native.Nat.{ℕ, ◌≤◌, ◌<◌}
 use native.Mathlib.Omega.{arith}
 use lib.ListN.{length, get_or, take}
 use lib.Seq.{length-take-le}
+use Rattle.inclusion.specs.declared.Outcome.TheVariants.{Absent, Found}
 use Rattle.fdfa.proofs.Words.{over-take, letters-over}
 use Rattle.lasso_text.specs.Text.{lasso_text_of}
 use Rattle.lasso_text.proofs.Measures.{text-few}
-use Rattle.compare.proofs.Blocks.{lies-found, absent-shown, found-shown, refused-shown}
+use Rattle.compare.proofs.Blocks.{absent-shown, found-shown}
 use Rattle.compare.proofs.text.comparison_text.Goals as goal
 
 -- what is printed has room
@@ -22,35 +23,32 @@ few os ps u v o p h k m n =
       length-take-le v ps k,
     )
 
-pub put_standings-requires : goal.put_standings-requires
-put_standings-requires c = omega (arith, c.put_verdict-at.ensures.1)
-
-pub slice_bounds-put_lasso-end : goal.slice_bounds-put_lasso-end
-slice_bounds-put_lasso-end c = sym (length-take-le _ _ (lies-found (length c.args.opening.now) (length c.args.period.now) c.in-Found.is c.requires.0).0)
-
-pub slice_bounds-put_lasso-end-in-Found : goal.slice_bounds-put_lasso-end-in-Found
-slice_bounds-put_lasso-end-in-Found c = sym (length-take-le _ _ (lies-found (length c.args.opening.now) (length c.args.period.now) c.in-Found.is c.requires.0).1)
-
 pub put_lasso-shown-requires : goal.put_lasso-shown-requires
 put_lasso-shown-requires c =
-    let w = lies-found (length c.args.opening.now) (length c.args.period.now) c.in-Found.is c.requires.0 in
-    let f = few c.args.opening.now c.args.period.now c.in-Found.z.prefix c.in-Found.z.period (λ i h. omega (arith, c.type_inv.opening i)) (λ i h. omega (arith, c.type_inv.period i)) w.0 w.1 c.requires.1 c.requires.2 in
-    omega (arith, f, c.put_verdict-at-in-Found.ensures.1)
+    let a = c.in-Ok-Found in
+    let e : a.field-0 ≡ Found a.z = rw a.is at a.field-0-is in
+    let w : (a.z.prefix ≤ length c.args.opening.now) × (a.z.period ≤ length c.args.period.now) = rw (a.is, e) at c.requires.0 in
+    let f = few c.args.opening.now c.args.period.now a.z.prefix a.z.period (λ i h. omega (arith, c.type_inv.opening i)) (λ i h. omega (arith, c.type_inv.period i)) w.0 w.1 c.requires.1 c.requires.2 in
+    omega (arith, f, c.put_verdict-at-in-Ok-Found.ensures.1)
 
-pub put_standings-requires-in-Found : goal.put_standings-requires-in-Found
-put_standings-requires-in-Found c =
-    let w = lies-found (length c.args.opening.now) (length c.args.period.now) c.in-Found.is c.requires.0 in
-    let f = few c.args.opening.now c.args.period.now c.in-Found.z.prefix c.in-Found.z.period (λ i h. omega (arith, c.type_inv.opening i)) (λ i h. omega (arith, c.type_inv.period i)) w.0 w.1 c.requires.1 c.requires.2 in
-    omega (arith, f, c.put_verdict-at-in-Found.ensures.1, c.put_lasso-shown.ensures.next)
+pub put_standings-requires-in-Ok-Found : goal.put_standings-requires-in-Ok-Found
+put_standings-requires-in-Ok-Found c =
+    let a = c.in-Ok-Found in
+    let e : a.field-0 ≡ Found a.z = rw a.is at a.field-0-is in
+    let w : (a.z.prefix ≤ length c.args.opening.now) × (a.z.period ≤ length c.args.period.now) = rw (a.is, e) at c.requires.0 in
+    let f = few c.args.opening.now c.args.period.now a.z.prefix a.z.period (λ i h. omega (arith, c.type_inv.opening i)) (λ i h. omega (arith, c.type_inv.period i)) w.0 w.1 c.requires.1 c.requires.2 in
+    omega (arith, f, c.put_verdict-at-in-Ok-Found.ensures.1, c.put_lasso-shown.ensures.next)
 
-pub returns-in-Absent : goal.returns-in-Absent
-returns-in-Absent c = absent-shown _ _ c.in-Absent.is c.requires.3 c.put_verdict-at.ensures c.put_standings.ensures
+pub returns-in-Ok-Absent : goal.returns-in-Ok-Absent
+returns-in-Ok-Absent c =
+    let a = c.in-Ok-Absent in
+    let e : a.field-0 ≡ Absent a.z = rw a.is at a.field-0-is in
+    rw (a.is, e) (absent-shown a.z c.requires.3 c.put_verdict-at.ensures c.put_standings.ensures)
 
-pub returns-in-Found : goal.returns-in-Found
-returns-in-Found c =
-    let w = lies-found (length c.args.opening.now) (length c.args.period.now) c.in-Found.is c.requires.0 in
-    let f = few c.args.opening.now c.args.period.now c.in-Found.z.prefix c.in-Found.z.period (λ i h. omega (arith, c.type_inv.opening i)) (λ i h. omega (arith, c.type_inv.period i)) w.0 w.1 c.requires.1 c.requires.2 in
-    found-shown _ _ c.in-Found.is c.requires.3 f c.put_verdict-at-in-Found.ensures c.put_lasso-shown.ensures c.put_standings-in-Found.ensures
-
-pub returns-in-Refused : goal.returns-in-Refused
-returns-in-Refused c = refused-shown _ _ c.in-Refused.is c.refusal_text.ensures
+pub returns-in-Ok-Found : goal.returns-in-Ok-Found
+returns-in-Ok-Found c =
+    let a = c.in-Ok-Found in
+    let e : a.field-0 ≡ Found a.z = rw a.is at a.field-0-is in
+    let w : (a.z.prefix ≤ length c.args.opening.now) × (a.z.period ≤ length c.args.period.now) = rw (a.is, e) at c.requires.0 in
+    let f = few c.args.opening.now c.args.period.now a.z.prefix a.z.period (λ i h. omega (arith, c.type_inv.opening i)) (λ i h. omega (arith, c.type_inv.period i)) w.0 w.1 c.requires.1 c.requires.2 in
+    rw (a.is, e) (found-shown a.z _ _ c.requires.3 f c.put_verdict-at-in-Ok-Found.ensures c.put_lasso-shown.ensures c.put_standings-in-Ok-Found.ensures)

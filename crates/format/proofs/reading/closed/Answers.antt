@@ -1,17 +1,13 @@
 -- `format::reading::closed` meets its contract. Assumes nothing.
-use mathlib.Core.Path.{ap, sym, ◌∙◌}
-use mathlib.Core.List.{◌∷◌, []}
-use Rattle.format.specs.Format.{done, byte, after, reading}
-use Rattle.format.specs.Steps.{step_says}
-use Rattle.format.proofs.Steps.{placed-refused, byte-placed}
+use mathlib.Core.Path.{◌≡◌}
+use Prim.Native.Nat.{ℕ}
+use borrow.Author.Rules.{rules}
+use Rattle.slices.specs.Refusals.{mapped}
+use Rattle.format.proofs.Steps.{byte-closed}
 use Rattle.format.proofs.reading.closed.Goals as goal
 
-pub returns-in-Refused : goal.returns-in-Refused
-returns-in-Refused c =
-    let t = c.args.text.now in
-    sym (ap (after (c.args.v ∷ [])) (placed-refused (reading c.args.part t (byte c.args.end done) c.args.at) (sym c.byte-step.ensures ∙ ap step_says c.in-Refused.is)))
-
-pub returns-in-Next : goal.returns-in-Next
-returns-in-Next c =
-    let t = c.args.text.now in
-    sym (ap (after (c.args.v ∷ [])) (byte-placed c.args.part t c.args.end c.args.at (sym c.byte-step.ensures ∙ ap step_says c.in-Next.is)))
+pub returns : goal.returns
+returns c =
+    let v = c.args.number.value in
+    let is : c.map.result ≡ mapped (λ (n : ℕ). record { value = v; next = n }) c.byte.result = search rules in
+    rw (is, c.byte.ensures) (byte-closed c.args.part c.args.text.now c.args.end v c.args.number.next)

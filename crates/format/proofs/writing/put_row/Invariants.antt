@@ -1,6 +1,6 @@
 -- The loops of `format::writing::put_row`.
 use mathlib.Core.List.{List}
-use Prim.Native.Nat.{ℕ, ◌-◌, ◌≤◌}
+use Prim.Native.Nat.{ℕ}
 use lib.ListN.{length, get_or}
 use Rattle.slices.specs.Tables.{rows}
 use Rattle.numbers.specs.Digits.{field}
@@ -13,7 +13,4 @@ abbrev pub fields : List ℕ → ℕ → List ℕ
 fields v i = field (get_or v i 0) (separator (length v) i)
 
 abbrev pub invariant-loop-i : goal.invariant-loop-i
-invariant-loop-i l = (l.i ≤ l.count) × Stored l.initial.out l.at (rows l.i (fields l.values)) l.out l.p
-
-abbrev pub decreases-loop-i : goal.decreases-loop-i
-decreases-loop-i l = l.count - l.i
+invariant-loop-i l = Stored l.initial.out l.at (rows l.i (fields l.values)) l.out l.p

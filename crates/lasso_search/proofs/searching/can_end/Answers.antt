@@ -15,8 +15,8 @@ starts : {rows : List ℕ} {count s : ℕ} {f : ℕ → ℕ → ℕ} {e : ℕ �
     → Ready (replicate 32 0) rows 1 s 0 status cells 1 0 (aim_at 1 0 count e)
 starts {e = e} t m some room = begin (stands-still t.few_letters) t (omega arith) (omega arith) some e m (omega arith)
 
-pub explore-found-requires : goal.explore-found-requires
-explore-found-requires c = let p = c.requires in record { aim = aim_at 1 0 c.args.count p.1.0; ready = starts p.0.1 p.1.1 p.2 p.3 }
+pub explore-requires : goal.explore-requires
+explore-requires c = let p = c.requires in record { aim = aim_at 1 0 c.args.count p.1.0; ready = starts p.0.1 p.1.1 p.2 p.3 }
 
 -- where the search is exhausted no period ends
 pub returns-in-On : goal.returns-in-On

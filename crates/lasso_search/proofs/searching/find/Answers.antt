@@ -1,68 +1,60 @@
 -- `lasso_search::searching::find` meets its contract: candidate after candidate, and for each code after code. Assumes nothing.
-use mathlib.Core.Path.{◌≡◌, ap, sym, subst, ◌∙◌}
-use mathlib.Core.List.{List}
-use Prim.Native.Nat.{ℕ, ◌-◌}
+use mathlib.Core.Path.{ap, sym, subst, ◌∙◌}
+use Prim.Native.Nat.{ℕ, ◌-◌, ◌≤◌}
 use native.Mathlib.Omega.{arith}
-use lib.ListN.{length}
+use lib.ListN.{length, take}
 use Rattle.pairing.specs.declared.Beside.{Beside}
-use Rattle.lasso_search.specs.declared.Candidate.{Candidate}
 use Rattle.lasso_search.specs.Reporting.{difference}
-use Rattle.lasso_search.specs.Codes.{Tabulated, Next, CanFind, Located}
+use Rattle.lasso_search.specs.Codes.{Round, Choice, FirstLasso}
 use Rattle.lasso_search.proofs.Difference.{complete}
 use Rattle.lasso_search.proofs.Lassos.{none-accepted}
 use Rattle.lasso_search.proofs.Rounds.{round-none}
 use Rattle.lasso_search.proofs.Candidates.{room_as, Standing, aim, turns-none, codes-in, turns-done, turns-on, turns-end}
 use Rattle.lasso_search.proofs.searching.find.Goals as goal
+use Rattle.lasso_search.proofs.searching.find.Goals.{In-Some}
 
 -- what stands at a candidate
-standing : {b d leads rows status work : List ℕ} {t : Beside} {n k r m w reached : ℕ} {c : Candidate} → CanFind b d t n k r m w → Tabulated leads n t.letters (difference b d).step
-    → length rows ≡ r → length status ≡ m → length work ≡ w → Next (difference b d) n reached 0 rows status work work c → Standing (difference b d) n t.letters reached leads rows status work c
-standing {n = n} can T re me we N = record {
-  complete = complete can.alike;
-  letters = ap (λ (t : Beside). t.letters) can.tables;
-  table = T;
-  room = room_as can.room re me (ap (λ (l : ℕ). l - (n - 1)) we);
-  next = N;
+standing : (c : In-Some) → Standing (difference c.args.first.now c.args.second.now) c.args.n c.args.t.letters c.start-reached.result c.start-reached.new.leads c.search.rows c.search.status c.search.work c.in-Some.c
+standing c = record {
+  complete = complete c.requires.alike;
+  letters = ap (λ (t : Beside). t.letters) c.requires.tables;
+  table = c.start-reached.ensures.table;
+  room = room_as c.requires.room (c.search.auto.rows ∙ c.next_candidate-next.auto.rows) (c.search.auto.status ∙ (c.next_candidate-next.auto.status ∙ c.start-reached.auto.status))
+      (ap (λ (l : ℕ). l - (c.args.n - 1)) (c.search.auto.work ∙ (c.next_candidate-next.auto.work ∙ c.start-reached.auto.work)));
+  chosen = subst (Choice (difference c.args.first.now c.args.second.now) c.args.n c.start-reached.result 0 c.search.rows c.search.status (take (c.args.n - 1) c.search.work)) c.in-Some.is c.search.invariant.choice;
 }
 
 pub loop-h-init : goal.loop-h-init
-loop-h-init c =
-    let F = standing c.requires c.start-reached.ensures.table (c.search.auto.rows ∙ c.next_candidate-c.auto.rows) (c.search.auto.status ∙ (c.next_candidate-c.auto.status ∙ c.start-reached.auto.status))
-    (c.search.auto.work ∙ (c.next_candidate-c.auto.work ∙ c.start-reached.auto.work)) c.search.invariant.next in (c.search.invariant.out_is, turns-none F c.search-test.true)
+loop-h-init c = (c.search.invariant.none_yet, turns-none (standing (goal.at.loop-h-init c).In-Some))
 
 pub overflow_add-h : goal.overflow_add-h
 overflow_add-h c =
-    let F = standing c.requires c.start-reached.ensures.table (c.search.auto.rows ∙ c.next_candidate-c.auto.rows) (c.search.auto.status ∙ (c.next_candidate-c.auto.status ∙ c.start-reached.auto.status))
-    (c.search.auto.work ∙ (c.next_candidate-c.auto.work ∙ c.start-reached.auto.work)) c.search.invariant.next in omega (arith, codes-in F c.search-test.true c.loop-h.invariant.1)
+    let k : c.loop-h.total ≤ length c.search.work - (c.args.n - 1) = codes-in (standing (goal.at.overflow_add-h c).In-Some) c.loop-h.invariant.1 in omega arith
 
 pub loop-h-smaller : goal.loop-h-smaller
-loop-h-smaller c =
-    let F = standing c.requires c.start-reached.ensures.table (c.search.auto.rows ∙ c.next_candidate-c.auto.rows) (c.search.auto.status ∙ (c.next_candidate-c.auto.status ∙ c.start-reached.auto.status))
-    (c.search.auto.work ∙ (c.next_candidate-c.auto.work ∙ c.start-reached.auto.work)) c.search.invariant.next in omega (arith, codes-in F c.search-test.true c.loop-h.invariant.1)
+loop-h-smaller c = omega (arith, codes-in (standing (goal.at.loop-h-smaller c).In-Some) c.loop-h.invariant.1)
 
 pub loop-h-preserved : goal.loop-h-preserved
 loop-h-preserved c =
-    let F = standing c.requires c.start-reached.ensures.table (c.search.auto.rows ∙ c.next_candidate-c.auto.rows) (c.search.auto.status ∙ (c.next_candidate-c.auto.status ∙ c.start-reached.auto.status))
-    (c.search.auto.work ∙ (c.next_candidate-c.auto.work ∙ c.start-reached.auto.work)) c.search.invariant.next in
+    let F = standing (goal.at.loop-h-preserved c).In-Some in
     let T = c.loop-h.invariant.1 in
-    (c.loop-h.invariant.0, turns-on F c.search-test.true T c.expand-step.new.status c.expand-step.new.cells c.expand-step.auto.status c.expand-step.auto.cells (c.in-On.ensures (aim F c.search-test.true c.args.n) T.ready))
+    (c.loop-h.invariant.0, turns-on F T c.expand.new.status c.expand.new.cells c.expand.auto.status c.expand.auto.cells (c.in-On.ensures (aim F c.args.n) T.ready))
 
 -- a candidate whose search is exhausted
-pub next_candidate-c-requires-in-search-clause-round : goal.next_candidate-c-requires-in-search-clause-round
-next_candidate-c-requires-in-search-clause-round c =
-    let F = standing c.requires c.start-reached.ensures.table (c.search.auto.rows ∙ c.next_candidate-c.auto.rows) (c.search.auto.status ∙ (c.next_candidate-c.auto.status ∙ c.start-reached.auto.status))
-    (c.search.auto.work ∙ (c.next_candidate-c.auto.work ∙ c.start-reached.auto.work)) c.search.invariant.next in turns-done F c.search-test.true c.loop-h.invariant.1 c.loop-h-test.false
-
-pub returns-after-search : goal.returns-after-search
-returns-after-search c =
-    let O = c.search.invariant.next.round in
-    let P = difference c.args.first.now c.args.second.now in
-    subst (Located P c.search.work) (sym c.search.invariant.out_is) (O.leads.counted, none-accepted P (complete c.requires.alike) (round-none O (omega (arith, c.search-test.false))))
+pub next_candidate-next-requires-in-Some-clause-round : goal.next_candidate-next-requires-in-Some-clause-round
+next_candidate-next-requires-in-Some-clause-round c =
+    turns-done (standing (goal.at.next_candidate-next-requires-in-Some-clause-round c).In-Some) c.loop-h.invariant.1 c.loop-h-test.false
 
 -- the first ending
 pub returns-in-Ending : goal.returns-in-Ending
 returns-in-Ending c =
-    let F = standing c.requires c.start-reached.ensures.table (c.search.auto.rows ∙ c.next_candidate-c.auto.rows) (c.search.auto.status ∙ (c.next_candidate-c.auto.status ∙ c.start-reached.auto.status))
-    (c.search.auto.work ∙ (c.next_candidate-c.auto.work ∙ c.start-reached.auto.work)) c.search.invariant.next in
+    let F = standing (goal.at.returns-in-Ending c).In-Some in
     let T = c.loop-h.invariant.1 in
-    turns-end F c.search-test.true T c.expand-step.new.status c.expand-step.new.cells c.expand-step.auto.status c.expand-step.auto.cells (c.in-Ending.ensures (aim F c.search-test.true c.args.n) T.ready)
+    turns-end F T c.expand.new.status c.expand.new.cells c.expand.auto.status c.expand.auto.cells (c.in-Ending.ensures (aim F c.args.n) T.ready)
+
+pub returns-in_default : goal.returns-in_default
+returns-in_default c =
+    let P = difference c.args.first.now c.args.second.now in
+    let O : Round P (take (c.args.n - 1) c.search.work) c.start-reached.result c.start-reached.result
+    = subst (Choice P c.args.n c.start-reached.result 0 c.search.rows c.search.status (take (c.args.n - 1) c.search.work)) c.in_default.is c.search.invariant.choice in
+    (O.leads.counted, subst (FirstLasso P c.search.work) (sym c.search.invariant.none_yet) (none-accepted P (complete c.requires.alike) (round-none O (omega arith))))

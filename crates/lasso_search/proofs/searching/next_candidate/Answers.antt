@@ -59,11 +59,14 @@ returns-then-count-gt0 c =
     let fits = front-in c.requires.alike.0 c.requires.room I.work_same in
     record {
       kept = same-front I fits c.state_of-q.ensures c.prepare-count.new.cells c.prepare-count.auto.cells ∙ I.kept;
-      later = I.later;
-      round = round₁ I fits c.state_of-q.ensures c.prepare-count.new.cells c.prepare-count.auto.cells;
-      state = λ h. state₁ I fits c.state_of-q.ensures c.prepare-count.new.cells c.prepare-count.auto.cells;
-      some = λ h. c.if-count-gt0.true;
-      prepared = λ h. c.prepare-count.ensures;
+      choice = record {
+        later = I.later;
+        here = omega arith;
+        round = round₁ I fits c.state_of-q.ensures c.prepare-count.new.cells c.prepare-count.auto.cells;
+        state = state₁ I fits c.state_of-q.ensures c.prepare-count.new.cells c.prepare-count.auto.cells;
+        some = c.if-count-gt0.true;
+        prepared = c.prepare-count.ensures;
+      };
     }
 
 pub loop-i-preserved : goal.loop-i-preserved
@@ -76,6 +79,6 @@ loop-i-preserved c =
       work_same = work₁-same I fits c.state_of-q.ensures c.prepare-count.new.cells c.prepare-count.auto.cells;
       kept = same-front I fits c.state_of-q.ensures c.prepare-count.new.cells c.prepare-count.auto.cells ∙ I.kept;
       later = omega (arith, I.later);
-      round = round-next (round₁ I fits c.state_of-q.ensures c.prepare-count.new.cells c.prepare-count.auto.cells) c.loop-i-test.true (state₁ I fits c.state_of-q.ensures c.prepare-count.new.cells c.prepare-count.auto.cells)
+      round = round-next (round₁ I fits c.state_of-q.ensures c.prepare-count.new.cells c.prepare-count.auto.cells) (omega arith) (state₁ I fits c.state_of-q.ensures c.prepare-count.new.cells c.prepare-count.auto.cells)
           (c.prepare-count.ensures.none (omega (arith, c.if-count-gt0.false)));
     }

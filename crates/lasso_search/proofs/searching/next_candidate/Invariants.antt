@@ -1,7 +1,7 @@
--- The loops of `lasso_search::searching::next_candidate`.
+-- The loop of `lasso_search::searching::next_candidate`.
 use mathlib.Core.Path.{◌≡◌}
 use mathlib.Core.List.{List}
-use Prim.Native.Nat.{ℕ, ◌-◌, ◌≤◌}
+use Prim.Native.Nat.{ℕ, ◌≤◌}
 use lib.ListN.{length, take}
 use Rattle.fdfa.specs.Family.{Fdfa}
 use Rattle.lasso_search.specs.Reporting.{difference}
@@ -19,6 +19,3 @@ pub record Passed (P : Fdfa) (front reached from : ℕ) (rows₀ status₀ work�
 
 abbrev pub invariant-loop-i : goal.invariant-loop-i
 invariant-loop-i l = Passed (difference l.first l.second) l.front l.reached l.from l.initial.rows l.initial.status l.initial.work l.rows l.status l.work l.i
-
-abbrev pub decreases-loop-i : goal.decreases-loop-i
-decreases-loop-i l = l.reached - l.i

@@ -15,8 +15,8 @@ begins : {status leads cells : List ℕ} {n m s : ℕ} {f : ℕ → ℕ → ℕ}
 begins {leads = leads} {cells = cells} {n = n} {s = s} e d r some t =
     subst (λ (l : List ℕ). Ready leads (replicate 32 0) n s 0 (set l 0 0) cells 1 0 everywhere) (sym (e ∙ ap (λ (k : ℕ). replicate k 1) d)) (begin-leads t some (omega arith))
 
-pub explore-found-requires : goal.explore-found-requires
-explore-found-requires c = let p = c.requires in record { aim = everywhere; ready = begins c.refresh.ensures p.2 p.3 p.1 p.0.1 }
+pub explore-requires : goal.explore-requires
+explore-requires c = let p = c.requires in record { aim = everywhere; ready = begins c.refresh.ensures p.2 p.3 p.1 p.0.1 }
 
 pub returns-in-On : goal.returns-in-On
 returns-in-On c = λ f t. let p = c.requires in leads-of t p.1 (c.in-On.ensures everywhere (begins c.refresh.ensures p.2 p.3 p.1 t))

@@ -1,4 +1,5 @@
 -- `lasso_text::reading::read_words` meets its contract. Assumes nothing.
+use Rattle.slices.proofs.Refusals.{handed}
 use mathlib.Core.Path.{◌≡◌, ap, ◌∙◌}
 use Prim.Native.Nat.{ℕ}
 use native.Mathlib.Omega.{arith}
@@ -9,25 +10,25 @@ use Rattle.lasso_text.specs.Reading.{letter, ended, opened}
 use Rattle.lasso_text.proofs.Onward.{title-refused, title-read, prefix-refused, prefix-read, words-refused, words-read}
 use Rattle.lasso_text.proofs.reading.read_words.Goals as goal
 
-pub read_lines-lines-requires : goal.read_lines-lines-requires
-read_lines-lines-requires c = ((title-read 32 c.args.part c.args.text.now c.read_literal-step.ensures c.in-Next.is).1, omega arith, omega (arith, ap (λ (x : Column). x.limit) c.letter.ensures))
+pub read_lines-requires : goal.read_lines-requires
+read_lines-requires c = ((title-read 32 c.args.part c.args.text.now c.read_literal.ensures c.in_ok-at.was).1, omega arith, omega (arith, ap (λ (x : Column). x.limit) c.letter.ensures))
 
 pub read_period-requires : goal.read_period-requires
-read_period-requires c = (prefix-read 32 _ _ _ (rw c.letter.ensures at c.read_lines-lines.ensures) (title-read 32 c.args.part c.args.text.now c.read_literal-step.ensures c.in-Next.is).1 c.in-Counted.is).4
+read_period-requires c = (prefix-read 32 _ _ _ (rw c.letter.ensures at c.read_lines.ensures) (title-read 32 c.args.part c.args.text.now c.read_literal.ensures c.in_ok-at.was).1 c.in_ok-lines.was).4
 
-pub returns-in-Refused : goal.returns-in-Refused
-returns-in-Refused c =
-    words-refused (title-refused 32 c.args.part c.args.text.now c.read_literal-step.ensures c.in-Refused.is) (omega arith) (omega arith)
+pub returns-in_err-at : goal.returns-in_err-at
+returns-in_err-at c = rw (handed c.from_residual.ensures)
+    (words-refused (title-refused 32 c.args.part c.args.text.now c.read_literal.ensures c.in_err-at.was) (omega arith) (omega arith))
 
-pub returns-in-Refused-lines : goal.returns-in-Refused-lines
-returns-in-Refused-lines c =
-    words-refused ((title-read 32 c.args.part c.args.text.now c.read_literal-step.ensures c.in-Next.is).0 ∙ prefix-refused 32 _ _ _ (rw c.letter.ensures at c.read_lines-lines.ensures) c.in-Refused-lines.is) (rw c.letter.ensures at c.read_lines-lines.ensures).same (omega arith)
+pub returns-in_err-lines : goal.returns-in_err-lines
+returns-in_err-lines c = rw (handed c.from_residual-in_err-lines.ensures)
+    (words-refused ((title-read 32 c.args.part c.args.text.now c.read_literal.ensures c.in_ok-at.was).0 ∙ prefix-refused 32 _ _ _ (rw c.letter.ensures at c.read_lines.ensures) c.in_err-lines.was) (rw c.letter.ensures at c.read_lines.ensures).same (omega arith))
 
-pub returns-in-Counted : goal.returns-in-Counted
-returns-in-Counted c =
+pub returns : goal.returns
+returns c =
     let part = c.args.part in
     let t = c.args.text.now in
-    let w = (prefix-read 32 _ _ _ (rw c.letter.ensures at c.read_lines-lines.ensures) (title-read 32 c.args.part c.args.text.now c.read_literal-step.ensures c.in-Next.is).1 c.in-Counted.is) in
-    let at : opened 32 part t (lines_at part t prefix_name (letter 32) c.in-Next.e) ≡ ended part t w.0.values (lines_at part t period_name (letter 32) c.in-Counted.o)
+    let w = (prefix-read 32 _ _ _ (rw c.letter.ensures at c.read_lines.ensures) (title-read 32 c.args.part c.args.text.now c.read_literal.ensures c.in_ok-at.was).1 c.in_ok-lines.was) in
+    let at : opened 32 part t (lines_at part t prefix_name (letter 32) c.in_ok-at.at) ≡ ended part t w.0.values (lines_at part t period_name (letter 32) c.in_ok-lines.lines.next)
     = ap (opened 32 part t) w.1 ∙ ap (λ (n : ℕ). ended part t w.0.values (lines_at part t period_name (letter 32) n)) w.3 in
-    words-read part t w.0 ((title-read 32 c.args.part c.args.text.now c.read_literal-step.ensures c.in-Next.is).0 ∙ at) w.1 (rw c.letter.ensures at c.read_lines-lines.ensures) w.2 c.read_period.ensures
+    words-read part t w.0 ((title-read 32 c.args.part c.args.text.now c.read_literal.ensures c.in_ok-at.was).0 ∙ at) w.1 (rw c.letter.ensures at c.read_lines.ensures) w.2 c.read_period.ensures

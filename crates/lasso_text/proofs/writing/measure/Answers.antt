@@ -11,30 +11,26 @@ use Rattle.lasso_text.specs.Text.{letter_line, letter_lines}
 use Rattle.lasso_text.proofs.Measures.{no_lines, lines_next, line-long}
 use Rattle.lasso_text.proofs.writing.measure.Goals as goal
 
-pub loop-i-init : goal.loop-i-init
-loop-i-init c =
+pub loop-letter-init : goal.loop-letter-init
+loop-letter-init c =
     let n = no_lines c.args.name.now c.args.word.now in
     let e : c.args.from ≡ c.args.from + length (rows 0 (letter_line c.args.name.now c.args.word.now)) = omega (arith, n) in
-    (sym (capped_is c.args.from (omega arith)) ∙ ap capped e, omega arith)
+    sym (capped_is c.args.from (omega arith)) ∙ ap capped e
 
-pub overflow_add-name : goal.overflow_add-name
-overflow_add-name c = omega (arith, c.width.ensures.1)
-
-pub overflow_add-name-in-loop-i : goal.overflow_add-name-in-loop-i
-overflow_add-name-in-loop-i c = omega (arith, c.width.ensures.1)
-
-pub loop-i-preserved : goal.loop-i-preserved
-loop-i-preserved c =
+pub loop-letter-preserved : goal.loop-letter-preserved
+loop-letter-preserved c =
     let name = c.args.name.now in
     let word = c.args.word.now in
-    let i = c.loop-i.i in
-    let d = ap (λ (x : ℕ). length (digits_of x)) c.wide.ensures in
+    let i = c.loop-letter.letter-index in
+    let d = ap (λ (x : ℕ). length (digits_of x)) c.from.ensures in
     let k : length name + c.width.result + 1 ≡ length (letter_line name word i) = omega (arith, line-long name word i, c.width.ensures.0, d) in
     let e : c.args.from + length (rows i (letter_line name word)) + (length name + c.width.result + 1) ≡ c.args.from + length (rows (i + 1) (letter_line name word)) = omega (arith, lines_next name word i, k) in
-    (c.sum-p.ensures ∙ (ap (λ (x : ℕ). capped (x + (length name + c.width.result + 1))) c.loop-i.invariant.0 ∙ (capped-sum (c.args.from + length (rows i (letter_line name word))) (length name + c.width.result + 1) ∙ ap capped e)), omega arith)
+    c.sum-p.ensures
+    ∙ (ap (λ (x : ℕ). capped (x + (length name + c.width.result + 1))) c.loop-letter.invariant
+    ∙ (capped-sum (c.args.from + length (rows i (letter_line name word))) (length name + c.width.result + 1) ∙ ap capped e))
 
 pub returns : goal.returns
 unfolding letter_lines
 returns c =
-    let e : c.loop-i.i ≡ length c.args.word.now = omega (arith, c.loop-i.invariant.1) in
-    c.loop-i.invariant.0 ∙ ap (λ (n : ℕ). capped (c.args.from + length (rows n (letter_line c.args.name.now c.args.word.now)))) e
+    let e : c.loop-letter.letter-index ≡ length c.args.word.now = omega arith in
+    c.loop-letter.invariant ∙ ap (λ (n : ℕ). capped (c.args.from + length (rows n (letter_line c.args.name.now c.args.word.now)))) e

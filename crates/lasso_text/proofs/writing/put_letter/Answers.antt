@@ -12,9 +12,9 @@ put_literal-named-requires c = omega (arith, c.requires, length-append c.args.na
 
 pub put_field-requires : goal.put_field-requires
 put_field-requires c =
-    let e = ap (λ (n : ℕ). length (field n 10)) c.wide.ensures in
+    let e = ap (λ (n : ℕ). length (field n 10)) c.from.ensures in
     omega (arith, c.requires, c.put_literal-named.ensures.next, e, length-append c.args.name.now (field c.args.letter 10))
 
 pub returns : goal.returns
 returns c =
-    stored-then _ _ c.put_literal-named.ensures (stored-as (ap (λ (n : ℕ). field n 10) c.wide.ensures) c.put_field.ensures)
+    stored-then _ _ c.put_literal-named.ensures (stored-as (ap (λ (n : ℕ). field n 10) c.from.ensures) c.put_field.ensures)

@@ -9,19 +9,21 @@ use Rattle.lasso_text.specs.Text.{letter_line, letter_lines}
 use Rattle.lasso_text.proofs.Measures.{line-within}
 use Rattle.lasso_text.proofs.writing.put_letters.Goals as goal
 
-pub loop-i-init : goal.loop-i-init
-loop-i-init c = (stored-none-rows _ _ _, omega arith)
+pub loop-letter-init : goal.loop-letter-init
+loop-letter-init c = stored-none-rows _ _ _
 
 pub put_letter-p-requires : goal.put_letter-p-requires
 put_letter-p-requires c =
-    omega (arith, c.loop-i.invariant.0.next, c.requires, line-within c.args.name.now c.args.word.now c.loop-i.i (omega arith))
+    let i = c.loop-letter in
+    omega (arith, i.invariant.next, c.requires, line-within c.args.name.now c.args.word.now i.letter-index (omega arith))
 
-pub loop-i-preserved : goal.loop-i-preserved
-loop-i-preserved c =
-    (stored_row c.loop-i.i (letter_line c.args.name.now c.args.word.now) c.loop-i.invariant.0 c.put_letter-p.ensures, omega arith)
+pub loop-letter-preserved : goal.loop-letter-preserved
+loop-letter-preserved c =
+    let i = c.loop-letter in
+    stored_row i.letter-index (letter_line c.args.name.now c.args.word.now) i.invariant c.put_letter-p.ensures
 
 pub returns : goal.returns
 unfolding letter_lines
 returns c =
-    let e : c.loop-i.i ≡ length c.args.word.now = omega (arith, c.loop-i.invariant.1) in
-    stored-as (ap (λ (n : ℕ). rows n (letter_line c.args.name.now c.args.word.now)) e) c.loop-i.invariant.0
+    let e : c.loop-letter.letter-index ≡ length c.args.word.now = omega arith in
+    stored-as (ap (λ (n : ℕ). rows n (letter_line c.args.name.now c.args.word.now)) e) c.loop-letter.invariant

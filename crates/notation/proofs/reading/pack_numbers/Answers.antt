@@ -1,4 +1,5 @@
 -- `notation::reading::pack_numbers` meets its contract. Assumes nothing.
+use Rattle.std.specs.Prelude.{Result, Ok, Err}
 use mathlib.Core.Path.{◌≡◌, ap, sym, subst, ◌∙◌}
 use mathlib.Core.List.{List}
 use Prim.Native.Nat.{ℕ, ◌+◌, ◌*◌, ◌≤◌}
@@ -6,8 +7,6 @@ use native.Mathlib.Omega.{arith}
 use native.Mathlib.Nat.{mul-le-mul}
 use lib.ListN.{length, get_or}
 use Rattle.slices.specs.declared.Refusal.{Refusal}
-use Rattle.slices.specs.declared.Written.TheVariants.{Refused}
-use Rattle.slices.specs.Refusals.{Result, given, refused}
 use Rattle.slices.specs.Tables.{sum}
 use Rattle.slices.proofs.Tables.{length-tab}
 use Rattle.packed.specs.Layout.{pack}
@@ -46,16 +45,16 @@ module _ {front parts : List ℕ} (w : Whole front parts) {s n : ℕ} (es : s �
 abbrev blocks : List ℕ → ℕ → List ℕ → Blocks
 blocks front at rows = record { front = front; timings = rows; next = at }
 
-abbrev answer : List ℕ → List ℕ → List ℕ → ℕ → List ℕ → Result Numbers
-answer t front parts at rows = ended t (blocks front at rows) (given (record { values = parts; next = at }))
+abbrev answer : List ℕ → List ℕ → List ℕ → ℕ → List ℕ → Result Numbers Refusal
+answer t front parts at rows = ended t (blocks front at rows) (Ok (record { values = parts; next = at }))
 
-there : (t front parts : List ℕ) {at : ℕ} → at ≡ length t → (rows : List ℕ) → answer t front parts at rows ≡ given (numbers t (blocks front at rows) parts at)
+there : (t front parts : List ℕ) {at : ℕ} → at ≡ length t → (rows : List ℕ) → answer t front parts at rows ≡ Ok (numbers t (blocks front at rows) parts at)
 there t front parts {at} e rows = ended-there t (blocks front at rows) parts at e
 
 pub returns-then-at-text : goal.returns-then-at-text
 returns-then-at-text c =
     λ rows.
-    packs-refused c.args.out.now c.args.cells (ended-early c.args.text.now (blocks c.args.front.now c.args.at rows) c.args.parts.now c.args.at c.if-at-text.true ∙ ap refused (sym c.refuse.ensures))
+    packs-refused c.args.out.now c.args.cells (ended-early c.args.text.now (blocks c.args.front.now c.args.at rows) c.args.parts.now c.args.at c.if-at-text.true ∙ ap Err (sym c.refuse.ensures))
 
 pub overflow_add-need : goal.overflow_add-need
 overflow_add-need c = omega (arith, few c.requires.0 c.requires.1 c.requires.2)
@@ -84,12 +83,12 @@ overflow_add-need-4 c =
 pub returns-then-out-need : goal.returns-then-out-need
 returns-then-out-need c =
     λ rows.
-    subst (λ (r : Refusal). Packs (answer c.args.text.now c.args.front.now c.args.parts.now c.args.at rows) c.args.cells c.args.out.now c.args.out.now (Refused r)) (sym c.refuse-then-out-need.ensures) (packs-short c.args.out.now c.args.cells _ (need c.requires.0 c.requires.1 c.requires.2 c.row_count.ensures) (times c.requires.0 c.requires.1 c.requires.2 c.requires.3 rows) (there c.args.text.now c.args.front.now c.args.parts.now (omega (arith, c.if-at-text.false)) rows) c.if-out-need.true)
+    subst (λ (r : Refusal). Packs (answer c.args.text.now c.args.front.now c.args.parts.now c.args.at rows) c.args.cells c.args.out.now c.args.out.now (Err r)) (sym c.refuse-then-out-need.ensures) (packs-short c.args.out.now c.args.cells _ (need c.requires.0 c.requires.1 c.requires.2 c.row_count.ensures) (times c.requires.0 c.requires.1 c.requires.2 c.requires.3 rows) (there c.args.text.now c.args.front.now c.args.parts.now (omega (arith, c.if-at-text.false)) rows) c.if-out-need.true)
 
 pub returns-then-cells-m : goal.returns-then-cells-m
 returns-then-cells-m c =
     λ rows.
-    subst (λ (r : Refusal). Packs (answer c.args.text.now c.args.front.now c.args.parts.now c.args.at rows) c.args.cells c.args.out.now c.args.out.now (Refused r)) (sym c.refuse-then-cells-m.ensures) (packs-untimed c.args.out.now c.args.cells _ (need c.requires.0 c.requires.1 c.requires.2 c.row_count.ensures) (times c.requires.0 c.requires.1 c.requires.2 c.requires.3 rows) (there c.args.text.now c.args.front.now c.args.parts.now (omega (arith, c.if-at-text.false)) rows) c.if-out-need.false c.if-cells-m.true)
+    subst (λ (r : Refusal). Packs (answer c.args.text.now c.args.front.now c.args.parts.now c.args.at rows) c.args.cells c.args.out.now c.args.out.now (Err r)) (sym c.refuse-then-cells-m.ensures) (packs-untimed c.args.out.now c.args.cells _ (need c.requires.0 c.requires.1 c.requires.2 c.row_count.ensures) (times c.requires.0 c.requires.1 c.requires.2 c.requires.3 rows) (there c.args.text.now c.args.front.now c.args.parts.now (omega (arith, c.if-at-text.false)) rows) c.if-out-need.false c.if-cells-m.true)
 
 pub fill-requires : goal.fill-requires
 fill-requires c =

@@ -1,4 +1,5 @@
 -- `notation::reading::read` meets its contract. Assumes nothing.
+use Rattle.slices.proofs.Refusals.{handed}
 use Prim.Native.Nat.{ℕ}
 use native.Mathlib.Omega.{arith}
 use lib.ListN.{length-replicate}
@@ -7,8 +8,8 @@ use Rattle.notation.proofs.reading.read.Goals as goal
 
 pub read_on-requires : goal.read_on-requires
 read_on-requires c =
-    opened c.args.text.now c.read_blocks-step.ensures c.in-Next.is (omega (arith, length-replicate {A = ℕ} 1091 0)) (omega (arith, length-replicate {A = ℕ} 64 0))
+    opened c.args.text.now c.read_blocks.ensures c.in_ok-e.was (omega (arith, length-replicate {A = ℕ} 1091 0)) (omega (arith, length-replicate {A = ℕ} 64 0))
 
-pub returns-in-Refused : goal.returns-in-Refused
-returns-in-Refused c =
-    unopened c.args.text.now c.read_blocks-step.ensures c.args.out.now c.args.seconds.now c.in-Refused.is
+pub returns-in_err-e : goal.returns-in_err-e
+returns-in_err-e c = rw (handed c.from_residual.ensures)
+    (unopened c.args.text.now c.read_blocks.ensures c.args.out.now c.args.seconds.now c.in_err-e.was)

@@ -1,4 +1,6 @@
 -- `notation::reading::read_rest` meets its contract. Assumes nothing.
+use Rattle.slices.proofs.Refusals.{handed}
+use Rattle.std.specs.Prelude.{Ok}
 use mathlib.Core.Path.{◌≡◌, ap, sym, subst, ◌∙◌}
 use mathlib.Core.List.{List}
 use Prim.Native.Nat.{ℕ, ◌+◌, ◌*◌, ◌≤◌}
@@ -7,7 +9,6 @@ use native.Mathlib.Nat.{mul-le-mul}
 use lib.ListN.{length, take, replicate, length-replicate}
 use lib.Seq.{length-take-le}
 use Rattle.slices.specs.declared.Part.TheVariants.{First}
-use Rattle.slices.specs.Refusals.{given}
 use Rattle.slices.specs.Tables.{sum}
 use Rattle.format.specs.Format.{Fits}
 use Rattle.format.proofs.Following.{lost}
@@ -50,26 +51,26 @@ pub overflow_mul-len : goal.overflow_mul-len
 overflow_mul-len c = omega (arith, many c.args.front.now c.requires.1 c.requires.2 c.requires.3 c.row_count.ensures)
 
 pub slice_bounds-parts-end : goal.slice_bounds-parts-end
-slice_bounds-parts-end c = room c.args.front.now c.requires.1 c.requires.2 c.requires.3 c.row_count.ensures c.read_progress-step.new.parts c.read_progress-step.ensures.same
+slice_bounds-parts-end c = room c.args.front.now c.requires.1 c.requires.2 c.requires.3 c.row_count.ensures c.read_progress.new.parts c.read_progress.ensures.same
 
 pub slice_bounds-pack_numbers-end : goal.slice_bounds-pack_numbers-end
 slice_bounds-pack_numbers-end c =
-    sym (length-take-le _ _ (room c.args.front.now c.requires.1 c.requires.2 c.requires.3 c.row_count.ensures c.read_progress-step.new.parts c.read_progress-step.ensures.same))
+    sym (length-take-le _ _ (room c.args.front.now c.requires.1 c.requires.2 c.requires.3 c.row_count.ensures c.read_progress.new.parts c.read_progress.ensures.same))
 
 pub pack_numbers-requires : goal.pack_numbers-requires
 pack_numbers-requires c =
-    let third = closed c.requires.0 c.requires.1 c.read_progress-step.ensures c.in-Next.is in
+    let third = closed c.requires.0 c.requires.1 c.read_progress.ensures c.in_ok-e.was in
     let whole = subst (Whole c.args.front.now) (sym (taken c.args.front.now c.requires.1 c.requires.2 c.requires.3 c.row_count.ensures third)) third.whole in
     (whole, c.requires.2, c.requires.3, c.requires.4)
 
-pub returns-in-Refused : goal.returns-in-Refused
-returns-in-Refused c =
-    λ rows.
-    packs-refused c.args.out.now c.args.cells (ap (ended c.args.text.now (blocks c.args.front.now c.args.at rows)) (lost First c.args.text.now (parts_format c.args.front.now) c.args.at c.read_progress-step.ensures c.in-Refused.is))
+pub returns-in_err-e : goal.returns-in_err-e
+returns-in_err-e c = rw (handed c.from_residual.ensures)
+    (λ rows.
+    packs-refused c.args.out.now c.args.cells (ap (ended c.args.text.now (blocks c.args.front.now c.args.at rows)) (lost First c.args.text.now (parts_format c.args.front.now) c.args.at c.read_progress.ensures c.in_err-e.was)))
 
-pub returns-in-Next : goal.returns-in-Next
-returns-in-Next c =
-    let third = closed c.requires.0 c.requires.1 c.read_progress-step.ensures c.in-Next.is in
-    let here = third.says ∙ ap (λ (l : List ℕ). given (record { values = l; next = c.in-Next.e })) (sym (taken c.args.front.now c.requires.1 c.requires.2 c.requires.3 c.row_count.ensures third)) in
+pub returns : goal.returns
+returns c =
+    let third = closed c.requires.0 c.requires.1 c.read_progress.ensures c.in_ok-e.was in
+    let here = third.says ∙ ap (λ (l : List ℕ). Ok (record { values = l; next = c.in_ok-e.e })) (sym (taken c.args.front.now c.requires.1 c.requires.2 c.requires.3 c.row_count.ensures third)) in
     λ rows.
     packs-as c.args.cells (ap (ended c.args.text.now (blocks c.args.front.now c.args.at rows)) here) (c.pack_numbers.ensures rows)

@@ -1,10 +1,11 @@
 -- `notation::writing::put_text` meets its contract. Assumes nothing.
+use Rattle.std.specs.Prelude.{Err}
 use mathlib.Core.Path.{◌≡◌, ap, sym, subst, ◌∙◌}
 use mathlib.Core.List.{◌++◌}
 use Prim.Native.Nat.{ℕ, ◌≤◌, ◌<◌}
 use native.Mathlib.Omega.{arith}
 use lib.ListN.{length}
-use Rattle.slices.specs.Refusals.{Fault, refused}
+use Rattle.slices.specs.Refusals.{Fault}
 use Rattle.slices.specs.Filling.{written, filled}
 use Rattle.slices.specs.Seconds.{TimesFit}
 use Rattle.slices.proofs.Filling.{none-back, fill-given}
@@ -31,7 +32,7 @@ returns-then-out-need c =
     let less : length c.args.out.now < c.put_sheet-need.result = omega (arith, ap length unchanged, c.if-out-need.true) in
     let f = too_short_lem (text_of c.args.level c.args.seconds.now c.args.sheet.now) c.args.out.now measured less in
     record {
-      says = ap refused c.refuse.ensures ∙ refuses (length (text_of c.args.level c.args.seconds.now c.args.sheet.now)) f;
+      says = ap Err c.refuse.ensures ∙ refuses (length (text_of c.args.level c.args.seconds.now c.args.sheet.now)) f;
       cells = unchanged ∙ ap (λ (x : Fault). filled x (text_of c.args.level c.args.seconds.now c.args.sheet.now) c.args.out.now) (sym f);
     }
 

@@ -5,27 +5,16 @@ use Rattle.numbers.proofs.Backward.{is-small, behind-none, behind_more, behind-a
 use Rattle.numbers.proofs.writing.put_digits.Goals as goal
 
 pub loop-i-init : goal.loop-i-init
-loop-i-init c = (behind-none _ _ _ _ c.width-w.ensures.0, omega arith)
-
-pub overflow_add-at : goal.overflow_add-at
-overflow_add-at c = omega (arith, c.loop-i.invariant.1, c.width-w.ensures.0, c.requires)
-
-pub put-requires : goal.put-requires
-put-requires c = omega (arith, c.loop-i.invariant.1, c.width-w.ensures.0, c.requires)
+loop-i-init c = behind-none _ _ _ _ c.width-w.ensures.0
 
 pub loop-i-preserved : goal.loop-i-preserved
-loop-i-preserved c =
-    (behind_more c.loop-i.invariant.0 c.loop-i-test.true c.digit.ensures c.put.ensures, omega (arith, c.loop-i.invariant.1))
+loop-i-preserved c = behind_more c.loop-i.invariant c.loop-i-test.true c.digit.ensures c.put.ensures
 
 pub digit-requires-2 : goal.digit-requires-2
-digit-requires-2 c = is-small _ (omega (arith, c.loop-i.invariant.0.long, c.loop-i-test.false))
+digit-requires-2 c = is-small _ (omega (arith, c.loop-i.invariant.long))
 
 pub put-requires-2 : goal.put-requires-2
-put-requires-2 c = omega (arith, c.requires, digits-some c.args.n)
-
-pub overflow_add-result : goal.overflow_add-result
-overflow_add-result c = omega (arith, c.width-w.ensures.0, c.requires)
+put-requires-2 c = omega (arith, digits-some c.args.n)
 
 pub returns : goal.returns
-returns c =
-    behind-all c.loop-i.invariant.0 c.loop-i-test.false c.width-w.ensures.0 c.digit-2.ensures c.put-2.ensures
+returns c = behind-all c.loop-i.invariant c.loop-i-test.false c.width-w.ensures.0 c.digit-2.ensures c.put-2.ensures

@@ -1,9 +1,9 @@
 -- `packed::checking::check_header` meets its contract: test by test. Assumes nothing.
+use Rattle.std.specs.Prelude.{Ok}
 use mathlib.Core.Path.{ap, sym, ◌∙◌}
 use Prim.Native.Nat.{ℕ}
 use native.Mathlib.Omega.{arith}
 use Rattle.slices.specs.Extremes.{largest}
-use Rattle.slices.specs.Refusals.{given}
 use Rattle.slices.proofs.Refusals.{refuses, gives}
 use Rattle.slices.proofs.Scans.{inside}
 use Rattle.packed.specs.Layout.{state_count, size_of}
@@ -42,6 +42,6 @@ returns c =
     let s = c.letters.ensures in
     let m = c.states-n.ensures in
     let w = c.widest.ensures ∙ ap (λ (m : ℕ). largest m (size_of b)) m in
-    (λ i. given (record { letters = s i; states = m i; widest = w i }))
+    (λ i. Ok (record { letters = s i; states = m i; widest = w i }))
     ∙ gives _
     (good-counts _ _ c.if-len-lt2.false (sym c.is_bad_count.ensures ∙ c.if-is_bad_count.false) (sym c.is_bad_count-2.ensures ∙ c.if-is_bad_count-2.false) m c.if-len-n.false c.first_outside-q.ensures c.if-q-n.false)

@@ -1,27 +1,27 @@
 -- `packed::checking::widest` meets its contract. Assumes nothing.
-use mathlib.Core.Path.{◌≡◌, refl, ap, ◌∙◌}
-use Prim.Native.Nat.{ℕ, max, ◌+◌, ◌≤◌}
+use mathlib.Core.Path.{◌≡◌, refl, ap₂, ◌∙◌}
+use mathlib.Core.List.{List}
+use Prim.Native.Nat.{ℕ, zero, suc, max, ◌+◌, ◌≤◌, ◌<◌}
 use native.Mathlib.Omega.{arith}
+use lib.ListN.{length, take, drop, length-drop}
+use lib.Seq.{get_or-drop}
 use native.Mathlib.Numerals.{add-one}
+use Rattle.std.proofs.Common.{fold}
+use Rattle.std.proofs.lemmas.List.Sums.{fold_more}
 use Rattle.slices.specs.Extremes.{largest}
 use borrow.Author.Rules.{rules}
+use Rattle.packed.specs.Layout.{size_of}
 use Rattle.packed.proofs.checking.widest.Goals as goal
-use Rattle.packed.proofs.checking.widest.Goals.{then-most-k, else-most-k}
 
-larger : (f : ℕ → ℕ) (q most m : ℕ) → most ≡ largest q f → m ≡ max most (f q) → m ≡ largest (q + 1) f
+-- cell by cell, the largest so far
+largest-is : (b : List ℕ) (n : ℕ) → 2 + n ≤ length b → fold (λ a x. max a x) 0 (take n (drop 2 b)) ≡ largest n (size_of b)
 unfolding largest
-larger f q most m e d = rw (add-one q) (omega arith)
-
-at-end : (f : ℕ → ℕ) (q n most : ℕ) → q ≤ n → n ≤ q → most ≡ largest q f → most ≡ largest n f
-at-end f q n most h l e = let d : q ≡ n = omega arith in e ∙ ap (λ (m : ℕ). largest m f) d
-
-pub loop-q-init : goal.loop-q-init
-unfolding largest
-loop-q-init c = (search rules, refl)
-
-pub loop-q-preserved : goal.loop-q-preserved
-loop-q-preserved c =
-    (search rules, larger _ c.loop-q.q c.loop-q.most _ c.loop-q.invariant.1 (elim c.if-most-k.branch [ then-most-k w ↦ omega (arith, c.size-k.ensures) | else-most-k w ↦ omega (arith, c.size-k.ensures) ]))
+largest-is b zero h = refl
+largest-is b (suc n) h =
+    let inside : n < length (drop 2 b) = omega (arith, length-drop 2 b) in
+    rw (← add-one n) (fold_more (λ a x. max a x) 0 (drop 2 b) n 0 inside ∙ ap₂ max (largest-is b n (omega arith)) (get_or-drop 2 b n 0))
 
 pub returns : goal.returns
-returns c = at-end _ c.loop-q.q _ c.loop-q.most c.loop-q.invariant.0 c.loop-q-test.false c.loop-q.invariant.1
+returns c =
+    let m : c.fold.result ≡ fold (λ a x. max a x) 0 (take c.args.n (drop 2 c.args.sheet.now)) = search rules in
+    m ∙ largest-is _ _ c.requires

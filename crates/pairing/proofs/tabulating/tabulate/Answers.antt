@@ -1,7 +1,7 @@
 -- `pairing::tabulating::tabulate` meets its contract: row after row. Assumes nothing.
 use mathlib.Core.Path.{◌≡◌, sym}
 use mathlib.Core.List.{List}
-use Prim.Native.Nat.{ℕ}
+use Prim.Native.Nat.{ℕ, ◌+◌, ◌≤◌}
 use native.Mathlib.Omega.{arith}
 use lib.ListN.{length}
 use Rattle.slices.proofs.Tables.{length-tab, length-table}
@@ -10,23 +10,28 @@ use Rattle.pairing.specs.declared.Beside.{Beside}
 use Rattle.pairing.specs.Pairs.{next_pair_of}
 use Rattle.pairing.proofs.tabulating.tabulate.Invariants.{row}
 use Rattle.pairing.proofs.tabulating.tabulate.Goals as goal
+use Rattle.pairing.proofs.tabulating.tabulate.Goals.{In-loop-x}
 
 -- the row at hand, as long as there are letters
 row-length : (b c : List ℕ) (t : Beside) (x : ℕ) → length (row b c t x) ≡ t.letters
 row-length b c t x = length-tab _ _
+
+-- which has room
+room : (c : In-loop-x) → c.loop-x.at + c.args.t.letters ≤ length c.loop-x.out
+room c = omega (arith, row_room c.loop-x.invariant c.loop-x-test.true, row-length c.args.first.now c.args.second.now c.args.t c.loop-x.x)
 
 pub loop-x-init : goal.loop-x-init
 loop-x-init c =
     rows_none _ _ _ (omega (arith, length-table c.args.count c.args.t.letters (next_pair_of c.args.first.now c.args.second.now c.args.t), c.requires.1))
 
 pub offset_bounds-out-at : goal.offset_bounds-out-at
-offset_bounds-out-at c = omega (arith, row_room c.loop-x.invariant c.loop-x-test.true, row-length c.args.first.now c.args.second.now c.args.t c.loop-x.x)
+offset_bounds-out-at c = omega (arith, room ((goal.at.offset_bounds-out-at c).In-loop-x))
 
 pub slice_bounds-write_row-count : goal.slice_bounds-write_row-count
-slice_bounds-write_row-count c = omega (arith, row_room c.loop-x.invariant c.loop-x-test.true, row-length c.args.first.now c.args.second.now c.args.t c.loop-x.x)
+slice_bounds-write_row-count c = omega (arith, room ((goal.at.slice_bounds-write_row-count c).In-loop-x))
 
 pub slice_bounds-write_row-start : goal.slice_bounds-write_row-start
-slice_bounds-write_row-start c = omega (arith, row_room c.loop-x.invariant c.loop-x-test.true, row-length c.args.first.now c.args.second.now c.args.t c.loop-x.x)
+slice_bounds-write_row-start c = omega (arith, room ((goal.at.slice_bounds-write_row-start c).In-loop-x))
 
 pub write_row-requires : goal.write_row-requires
 write_row-requires c = (
@@ -35,7 +40,7 @@ write_row-requires c = (
 )
 
 pub overflow_add-at : goal.overflow_add-at
-overflow_add-at c = omega (arith, row_room c.loop-x.invariant c.loop-x-test.true, row-length c.args.first.now c.args.second.now c.args.t c.loop-x.x)
+overflow_add-at c = omega (arith, room ((goal.at.overflow_add-at c).In-loop-x))
 
 pub loop-x-preserved : goal.loop-x-preserved
 loop-x-preserved c =

@@ -1,6 +1,6 @@
 -- The loops of `pairing::tabulating::tabulate`.
 use mathlib.Core.List.{List}
-use Prim.Native.Nat.{ℕ, ◌-◌}
+use Prim.Native.Nat.{ℕ}
 use Rattle.slices.specs.Tables.{tab}
 use Rattle.slices.proofs.Filling.{RowFilling}
 use Rattle.pairing.specs.declared.Beside.{Beside}
@@ -13,6 +13,3 @@ row b c t x = tab t.letters (next_pair_of b c t x)
 
 abbrev pub invariant-loop-x : goal.invariant-loop-x
 invariant-loop-x l = RowFilling l.count (row l.first l.second l.t) l.initial.out l.out l.at l.x
-
-abbrev pub decreases-loop-x : goal.decreases-loop-x
-decreases-loop-x l = l.count - l.x

@@ -26,17 +26,16 @@ step-q-requires c = omega (arith, first _ _ c.requires.1, rest c.args.i, c.requi
 pub step-requires : goal.step-requires
 step-requires c = omega (arith, c.if-b-letters.true, between c.requires.0 c.requires.1 c.step-q.ensures, c.requires.0.few_letters, c.requires.0.long)
 
-pub narrow-requires : goal.narrow-requires
-narrow-requires c = omega (arith, c.step.ensures, c.requires.0.closed c.step-q.result _ (between c.requires.0 c.requires.1 c.step-q.ensures) c.if-b-letters.true)
+pub overflow_cast-result : goal.overflow_cast-result
+overflow_cast-result c = omega (arith, c.step.ensures, c.requires.0.closed c.step-q.result _ (between c.requires.0 c.requires.1 c.step-q.ensures) c.if-b-letters.true)
 
 pub returns-then-b-letters : goal.returns-then-b-letters
 returns-then-b-letters c =
     let t = c.args.table.now in
     let b = c.args.i / 32 % 32 in
-    c.narrow.ensures
-    ∙ (c.step.ensures
+    c.step.ensures
     ∙ (ap (λ (q : ℕ). column_step t q b) c.step-q.ensures
-    ∙ ap (λ (x : Bool). cond x (column_step t (column_step t (c.args.i % 32) (c.args.i / 1024)) b) 0) (sym (lt-ltb _ _ c.if-b-letters.true))))
+    ∙ ap (λ (x : Bool). cond x (column_step t (column_step t (c.args.i % 32) (c.args.i / 1024)) b) 0) (sym (lt-ltb _ _ c.if-b-letters.true)))
 
 pub returns : goal.returns
 returns c = rw (le-ltb _ _ c.if-b-letters.false)

@@ -1,4 +1,5 @@
 -- `running_sheet::writing::fill` meets its contract. Assumes nothing.
+use Rattle.slices.specs.declared.Reason.TheVariants.{TooLittleRoom}
 use mathlib.Core.Path.{◌≡◌, ap, sym, ◌∙◌}
 use Prim.Native.Nat.{ℕ, ◌+◌, ◌≤◌}
 use native.Mathlib.Omega.{arith}
@@ -21,8 +22,8 @@ returns-then-out-need c =
     let measured : (c.measure.result + c.measure-2.result + c.width.result + c.width-2.result + 34) ≡ length (running_sheet_of c.args.prefix.now c.args.period.now c.args.seconds.now) = let d = ap (λ (n : ℕ). length (digits_of n)) c.sum_seconds-opening.ensures.0 in let e = ap (λ (n : ℕ). length (digits_of n)) c.sum_seconds-turn.ensures.0 in omega (arith, sheet-long c.args.prefix.now c.args.period.now c.args.seconds.now, c.measure.ensures.0, c.measure-2.ensures.0, c.width.ensures.0, c.width-2.ensures.0, d, e) in
     let room = length c.args.out.now in
     fill-refused _ _
-    (when-fails 21 Out (length (running_sheet_of c.args.prefix.now c.args.period.now c.args.seconds.now)) (lt-ltb room (length (running_sheet_of c.args.prefix.now c.args.period.now c.args.seconds.now)) (omega (arith, c.if-out-need.true, measured)))
-    ∙ (ap (λ (n : ℕ). fault (record { number = 21; part = Out; place = n })) (sym measured) ∙ ap fault (sym c.refuse.ensures)))
+    (when-fails TooLittleRoom Out (length (running_sheet_of c.args.prefix.now c.args.period.now c.args.seconds.now)) (lt-ltb room (length (running_sheet_of c.args.prefix.now c.args.period.now c.args.seconds.now)) (omega (arith, c.if-out-need.true, measured)))
+    ∙ (ap (λ (n : ℕ). fault (record { reason = TooLittleRoom; part = Out; place = n })) (sym measured) ∙ ap fault (sym c.refuse.ensures)))
 
 pub put_show-at-requires : goal.put_show-at-requires
 put_show-at-requires c =
@@ -45,4 +46,4 @@ returns c =
     let e = c.sum_seconds-turn.ensures.0 in
     let h : length (running_sheet_of c.args.prefix.now c.args.period.now c.args.seconds.now) ≤ length c.args.out.now = omega (arith, c.if-out-need.false, measured) in
     let t = stored-then (first_block u v w) (totals_text (lasting u w) (lasting v w)) c.put_show-at.ensures (stored-as (λ i. totals_text (d i) (e i)) c.put_totals.ensures) in
-    fill-given (running_sheet_of c.args.prefix.now c.args.period.now c.args.seconds.now) (when-passes 21 Out (length (running_sheet_of c.args.prefix.now c.args.period.now c.args.seconds.now)) (le-ltb (length c.args.out.now) (length (running_sheet_of c.args.prefix.now c.args.period.now c.args.seconds.now)) h)) measured (stored-written (stored-as (sym (text-lines u v w)) t) h)
+    fill-given (running_sheet_of c.args.prefix.now c.args.period.now c.args.seconds.now) (when-passes TooLittleRoom Out (length (running_sheet_of c.args.prefix.now c.args.period.now c.args.seconds.now)) (le-ltb (length c.args.out.now) (length (running_sheet_of c.args.prefix.now c.args.period.now c.args.seconds.now)) h)) measured (stored-written (stored-as (sym (text-lines u v w)) t) h)

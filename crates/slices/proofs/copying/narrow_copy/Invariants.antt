@@ -1,11 +1,7 @@
--- The loops of `slices::copying::narrow_copy`.
-use Prim.Native.Nat.{◌-◌}
+-- The loop of `slices::copying::narrow_copy`.
 use lib.ListN.{length, get_or}
 use Rattle.slices.proofs.Filling.{Filling}
 use Rattle.slices.proofs.copying.narrow_copy.Given as goal
 
 abbrev pub invariant-loop-i : goal.invariant-loop-i
 invariant-loop-i l = Filling (length l.from) (λ k. get_or l.from k 0) l.initial.out l.out l.i
-
-abbrev pub decreases-loop-i : goal.decreases-loop-i
-decreases-loop-i l = length l.from - l.i

@@ -1,36 +1,20 @@
 -- `slices::halving::halves` meets its contract. Assumes nothing.
-use mathlib.Core.Path.{ap₂, ◌∙◌}
-use Prim.Native.Nat.{ℕ, ◌+◌, ◌*◌, ◌<◌}
 use native.Mathlib.Omega.{arith}
-use Rattle.slices.specs.Halves.{halves_of}
-use Rattle.slices.proofs.Filling.{filling-none, filling-more, filling-all}
+use Rattle.slices.proofs.Halved.{paired-none, pair-within, paired-more, paired-all}
 use Rattle.slices.proofs.halving.halves.Goals as goal
 
 pub loop-i-init : goal.loop-i-init
-loop-i-init c = filling-none _ _ _ c.requires
+loop-i-init c = paired-none c.requires (cc) (cc) (cc)
 
--- both bytes that were read are bytes
-fits : (c : goal.After-wide-high) → (c.wide-low.result < 256) × (c.wide-high.result < 256)
-fits c =
-    let h = c in
-    let l = h in
-    let i = l.loop-i.i in
-    (omega (arith, h.wide-low.ensures, l.type_inv.bytes (i * 2)), omega (arith, c.wide-high.ensures, h.type_inv.bytes (i * 2 + 1)))
-
-pub overflow_mul-high : goal.overflow_mul-high
-overflow_mul-high c = omega (arith, (fits c).0, (fits c).1)
-
-pub overflow_add-low : goal.overflow_add-low
-overflow_add-low c = omega (arith, (fits c).0, (fits c).1)
-
-pub narrow16-requires : goal.narrow16-requires
-narrow16-requires c = omega (arith, (fits c).0, (fits c).1)
+pub bounds-cells-i : goal.bounds-cells-i
+bounds-cells-i c =
+    let s = c.loop-i.invariant in
+    let step = c.in-Some.ensures.steps in
+    omega (arith, step.1, pair-within s _ _ step.0.1.0 step.0.1.1, s.filling.room, s.filling.same)
 
 pub loop-i-preserved : goal.loop-i-preserved
 loop-i-preserved c =
-    filling-more _ c.loop-i.invariant c.loop-i-test.true
-    (c.narrow16.ensures ∙ ap₂ (λ (x y : ℕ). x + y * 256) c.wide-low.ensures c.wide-high.ensures)
+    let step = c.in-Some.ensures.steps in paired-more c.loop-i.invariant _ _ step.0.1.0 step.0.1.1 c.from_le_bytes.ensures step.1 step.2 step.0.0
 
 pub returns : goal.returns
-unfolding halves_of
-returns c = filling-all c.loop-i.invariant c.loop-i-test.false
+returns c = paired-all c.loop-i.invariant c.in-None.ensures.steps.0.1.0

@@ -1,22 +1,21 @@
--- `slices::scanning::first_outside` meets its contract: of the bytes passed, none is outside. Assumes nothing.
-use mathlib.Core.Path.{refl, ap, ◌∙◌}
+-- `slices::scanning::first_outside` meets its contract. Assumes nothing.
+use mathlib.Core.Path.{◌≡◌, ap, ◌∙◌}
+use Prim.Native.Nat.{ℕ, ◌+◌, ◌-◌}
+use native.Mathlib.Omega.{arith}
+use lib.ListN.{take, drop}
+use borrow.Author.Rules.{rules}
+use borrow.Author.Tests.{tests}
+use Rattle.std.proofs.lemmas.Iterator.{YieldsList-from_slice}
+use Rattle.std.proofs.lemmas.Iterator.Search.{position_from_yields_List}
 use Rattle.slices.specs.Scans.{outside}
-use Rattle.slices.proofs.Scans.{passed_none, passed-stops, passed-more, passed-all}
+use Rattle.slices.proofs.Scans.{position-first}
 use Rattle.slices.proofs.scanning.first_outside.Goals as goal
 
-pub loop-i-init : goal.loop-i-init
-loop-i-init c = passed_none _ _ _ _ _
-
-pub returns-then-is_inside : goal.returns-then-is_inside
-returns-then-is_inside c = c.is_inside.ensures c.if-is_inside.true
-
-pub returns-then-is_outside : goal.returns-then-is_outside
-returns-then-is_outside c =
-    passed-stops c.loop-i.invariant c.loop-i-test.true refl (c.is_outside.ensures ∙ ap (outside _ _) c.wide.ensures) c.if-is_outside.true
-
-pub loop-i-preserved : goal.loop-i-preserved
-loop-i-preserved c =
-    passed-more c.loop-i.invariant c.loop-i-test.true refl (c.is_outside.ensures ∙ ap (outside _ _) c.wide.ensures) c.if-is_outside.false
-
 pub returns : goal.returns
-returns c = passed-all c.loop-i.invariant c.loop-i-test.false
+returns c =
+    let s = c.args in
+    let e : s.at + s.count - s.at ≡ s.count = omega arith in
+    let part = YieldsList-from_slice _ (c.iter.ensures.rest ∙ ap (λ (n : ℕ). take n (drop s.at s.bytes.now)) e) in
+    c.unwrap_or.ensures
+    ∙ position-first s.low s.limit s.bytes.now s.at s.count c.requires _
+    (position_from_yields_List (outside s.low s.limit) _ _ _ c.position.ensures.ran part (λ x b q k. search (rules, tests)))

@@ -31,4 +31,4 @@ returns-then-low-gt0 c e = absurd (true≢false (sym e))
 
 pub returns : goal.returns
 returns c e =
-    none _ _ _ _ _ _ c.top.result (omega arith) refl c.requires c.top.ensures (omega (arith, c.wide-most.ensures, ltb-true c.wide-most.result c.args.limit e))
+    none _ _ _ _ _ _ c.top.result (omega arith) refl c.requires c.top.ensures (omega (arith, c.from.ensures, ltb-true c.from.result c.args.limit e))

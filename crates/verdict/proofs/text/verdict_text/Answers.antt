@@ -2,8 +2,8 @@
 use Rattle.verdict.proofs.Blocks.{given-shown, refused-shown}
 use Rattle.verdict.proofs.text.verdict_text.Goals as goal
 
-pub returns-in-Given : goal.returns-in-Given
-returns-in-Given c = given-shown c.in-Given.is c.requires c.put_verdict.ensures
+pub returns-in-Ok : goal.returns-in-Ok
+returns-in-Ok c = given-shown c.in-Ok.is c.requires c.put_verdict.ensures
 
-pub returns-in-Refused : goal.returns-in-Refused
-returns-in-Refused c = refused-shown c.in-Refused.is c.refusal_text.ensures
+pub returns-in-Err : goal.returns-in-Err
+returns-in-Err c = refused-shown c.in-Err.is c.refusal_text.ensures

@@ -1,9 +1,0 @@
--- The loops of `cart::names::end_place`.
-use Prim.Native.Nat.{◌-◌, ◌≤◌}
-use Rattle.cart.proofs.names.end_place.Given as goal
-
-abbrev pub invariant-loop-i : goal.invariant-loop-i
-invariant-loop-i l = 1 ≤ l.i
-
-abbrev pub decreases-loop-i : goal.decreases-loop-i
-decreases-loop-i l = l.count - l.i

@@ -1,0 +1,1 @@
+-- `lasso_search::searching::find_within` meets its contract. Assumes nothing.
