@@ -1,8 +1,8 @@
 -- What is said on standard error, for people: a refusal in words and, where it is asked for, what was decided.
 -- Assumes nothing.
-use Rattle.slices.specs.declared.Refusal.{Refusal}
 use Rattle.std.specs.Prelude.{Bool, cond, List, [], ◌++◌, ℕ, ◌+◌, eqb, length, get_or, take, Result, Ok, Err}
 use Prim.Native.Char.{code}
+use Rattle.slices.specs.declared.Refusal.{Refusal}
 use Rattle.slices.specs.Tables.{rows}
 use Rattle.slices.specs.Texts.{bytes}
 use Rattle.fdfa.specs.Inclusion as model

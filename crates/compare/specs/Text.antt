@@ -1,7 +1,7 @@
 -- What the comparison prints for each answer (01, and the last block 02), block by block. Assumes nothing.
-use Rattle.slices.specs.declared.Refusal.{Refusal}
 use Rattle.std.specs.Prelude.{Bool, cond, List, ◌++◌, ℕ, ◌≤◌, take, Result, Ok, Err}
 use Prim.Native.Char.{code}
+use Rattle.slices.specs.declared.Refusal.{Refusal}
 use Rattle.slices.specs.Texts.{bytes}
 use Rattle.fdfa.specs.Inclusion as model
 use Rattle.numbers.specs.Digits.{field}

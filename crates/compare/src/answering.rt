@@ -7,19 +7,13 @@ ghost use Rattle.compare.specs.Said.{file_in, outcome_said, message_text};
 use crate::saying::put_decided;
 use crate::text::comparison_text;
 use compare_files::decide;
+use console::Output;
 use inclusion::Outcome;
 use sheet_forms::{form_in, is_text};
 use slices::Refusal;
 use wording::refusal_words;
 
 const SCENES: usize = 4096;
-
-// How many bytes are printed, and how many said.
-#[derive(Clone, Copy)]
-pub struct Printed {
-    pub text: usize,
-    pub said: usize,
-}
 
 // A refusal in words, and what was decided where it is asked for.
 fn put_message(
@@ -62,7 +56,7 @@ pub fn put_answer(
     second: &[u8],
     out: &mut [u8],
     said: &mut [u8],
-) -> Printed
+) -> Output
     requires { (length one.now ≤ 4096) × (length two.now ≤ 4096) × (237776 ≤ length out.old) ×
         (196608 ≤ length said.old) }
     ensures { Shows (program_text any first.now second.now) out.old
@@ -77,5 +71,5 @@ pub fn put_answer(
     let words = put_message(
         any, explain, answer, &opening, &period, one, first, two, second, said,
     );
-    Printed { text, said: words }
+    Output { text, said: words }
 }

@@ -1,9 +1,9 @@
 -- The refusal of a file of more than 65,536 bytes. How much of a slice is filled. Assumes nothing.
-use Rattle.slices.specs.declared.Reason.TheVariants.{FileTooLong}
-use Rattle.slices.specs.declared.Refusal.{Refusal}
 use Rattle.std.specs.Prelude.{◌≡◌, List, ℕ, ◌≤◌, length, take, ltb, Result, Err}
 use Rattle.slices.specs.declared.Part.{Part}
 use Rattle.slices.specs.declared.Part.TheVariants.{First, Second}
+use Rattle.slices.specs.declared.Reason.TheVariants.{FileTooLong}
+use Rattle.slices.specs.declared.Refusal.{Refusal}
 use Rattle.slices.specs.Refusals.{Fault, sound, fault, ◌then◌, when}
 
 -- Of a file of which n bytes came.

@@ -1,8 +1,8 @@
 // What the programs share: files read whole, files that are too long, what the arguments ask for, and what is printed.
 #![tactic(auto)]
 
-ghost use Rattle.slices.specs.Refusals.{fault_in};
 ghost use Rattle.std.specs.Prelude.{◌≡◌};
+ghost use Rattle.slices.specs.Refusals.{fault_in};
 ghost use Rattle.console.specs.Files.{length_fault, lengths_fault};
 
 use slices::{Part, Reason, Refusal, refuse};
@@ -41,6 +41,13 @@ pub struct Asked {
     pub names: usize,
     pub first: usize,
     pub second: usize,
+}
+
+// How many bytes of a program's answer are printed, and how many said.
+#[derive(Clone, Copy, Debug, PartialEq, Eq)]
+pub struct Output {
+    pub text: usize,
+    pub said: usize,
 }
 
 // Judges a file of which `length` bytes came.

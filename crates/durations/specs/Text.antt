@@ -1,6 +1,6 @@
 -- What the durations program prints. Assumes nothing.
-use Rattle.slices.specs.declared.Refusal.{Refusal}
 use Rattle.std.specs.Prelude.{List, ℕ, Result, Ok, Err}
+use Rattle.slices.specs.declared.Refusal.{Refusal}
 use Rattle.console.specs.Printed.{refusal_text_of}
 use Rattle.durations_files.specs.Decided.{decided}
 

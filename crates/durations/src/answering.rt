@@ -5,14 +5,8 @@ ghost use Rattle.durations.specs.Text.{program_text};
 ghost use Rattle.durations.specs.Said.{message_text};
 
 use crate::saying::put_refusal;
+use console::Output;
 use durations_files::write_files;
-
-// How many bytes are printed, and how many said.
-#[derive(Clone, Copy)]
-pub struct Printed {
-    pub text: usize,
-    pub said: usize,
-}
 
 // What is printed for the bytes that came of two files, and what is said beside it. The names are those of the files.
 pub fn put_answer(
@@ -22,7 +16,7 @@ pub fn put_answer(
     show: &[u8],
     out: &mut [u8],
     said: &mut [u8],
-) -> Printed
+) -> Output
     requires { (length one.now ≤ 4096) × (length two.now ≤ 4096) × (131146 ≤ length out.old) ×
         (8448 ≤ length said.old) }
     ensures { Shows (program_text text.now show.now) out.old out.new
@@ -31,8 +25,8 @@ pub fn put_answer(
         said.old said.new result.said }
 {
     match write_files(text, show, out) {
-        Ok(n) => Printed { text: n, said: 0 },
-        Err(r) => Printed {
+        Ok(n) => Output { text: n, said: 0 },
+        Err(r) => Output {
             text: console::refusal_text(r, out),
             said: put_refusal(one, text, two, show, r, said),
         },

@@ -48,10 +48,10 @@ module _ {P : Fdfa} {n s reached : ℕ} {leads rows status work : List ℕ} {c :
   q-in = round-in F.chosen.round F.chosen.here F.chosen.state
 
   pos : 0 < c.count
-  pos = F.chosen.some
+  pos = F.chosen.prepared.some
 
   all-is : c.count * n ≡ P.size c.state * n
-  all-is = ap (λ (k : ℕ). k * n) (F.chosen.prepared.is pos)
+  all-is = ap (λ (k : ℕ). k * n) F.chosen.prepared.is
 
   q-below : c.state < n
   q-below = omega (arith, q-in, F.room.all)
@@ -63,11 +63,11 @@ module _ {P : Fdfa} {n s reached : ℕ} {leads rows status work : List ℕ} {c :
   leads-are = subst₂ (λ (j t : ℕ). Tabulated leads j t P.step) F.room.all F.letters F.table
 
   rows_are : Tabulated rows c.count P.letters (P.progress c.state)
-  rows_are = F.chosen.prepared.tabled pos
+  rows_are = F.chosen.prepared.tabled
 
   begins : Ready leads rows n s c.state (take (c.count * n) status) (take (length work - (n - 1)) (drop (n - 1) work)) 1 0 (aim n)
   begins =
-      begin F.table (subst (λ (t : ℕ). Tabulated rows c.count t (P.progress c.state)) (sym F.letters) rows_are) some q-below pos (P.accepting c.state) (F.chosen.prepared.fresh pos)
+      begin F.table (subst (λ (t : ℕ). Tabulated rows c.count t (P.progress c.state)) (sym F.letters) rows_are) some q-below pos (P.accepting c.state) F.chosen.prepared.fresh
       (omega (arith, tail-long (n - 1) work front-in, all-is, F.room.cells_fit c.state q-below))
 
   -- no period from the candidate is accepted

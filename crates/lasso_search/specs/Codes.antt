@@ -1,6 +1,5 @@
 -- What the search for a lasso keeps: accepted loops at a leading state, tables of a family's steps, the leading states
 -- that were found, and the first lasso by its codes. Only inner contracts and loops use these. Assumes nothing.
-use Rattle.slices.specs.declared.Refusal.{Refusal}
 use Rattle.std.specs.Prelude.{◌≡◌, Bool, true, cond, not, ◌&&◌, List, ◌⊎◌, ℕ, ◌+◌, ◌*◌, ◌-◌, ◌/◌, ◌%◌, ◌≤◌, ◌<◌, eqb}
 use Rattle.std.specs.Prelude.{length, get_or, take, drop, Option, None, Some, Result}
 use Rattle.fdfa.specs.Family.{Fdfa, Closed}
@@ -12,6 +11,7 @@ use Rattle.search.specs.Queue.{state_at}
 use Rattle.search.specs.Paths.{Path, Readable}
 use Rattle.search.specs.Search.{row_step}
 use Rattle.fdfa.specs.Enumeration.{lasso}
+use Rattle.slices.specs.declared.Refusal.{Refusal}
 use Rattle.slices.specs.Refusals.{unless}
 use Rattle.lasso_search.specs.Lassos.{Lent, room_fault, lasso_written}
 use Rattle.lasso_search.specs.Reporting.{difference, report_of}
@@ -96,12 +96,17 @@ pub record Room (P : Fdfa) (n rows status cells : ℕ) : Type 0 where
   pub status_fit : (q : ℕ) → q < n → P.size q * n ≤ status
   pub cells_fit : (q : ℕ) → q < n → P.size q * n + 1 ≤ cells
 
--- The search from q is prepared for k pairs of progress states, or no period from q is accepted (0).
+-- The search from q is prepared for k pairs of progress states.
 pub record Prepared (P : Fdfa) (n q : ℕ) (rows status : List ℕ) (k : ℕ) : Type 0 where
-  pub none : k ≡ 0 → (v : Word) → AcceptedPeriod P q v → ⊥
-  pub is : 0 < k → k ≡ P.size q
-  pub tabled : 0 < k → Tabulated rows k P.letters (P.progress q)
-  pub fresh : 0 < k → Fresh (take (k * n) status) n q k (P.accepting q)
+  pub some : 0 < k
+  pub is : k ≡ P.size q
+  pub tabled : Tabulated rows k P.letters (P.progress q)
+  pub fresh : Fresh (take (k * n) status) n q k (P.accepting q)
+
+-- The search from q is prepared, or none: then no period from q is accepted.
+abbrev pub Preparation : Fdfa → ℕ → ℕ → List ℕ → List ℕ → Option ℕ → Type 0
+Preparation P n q rows status None = (v : Word) → AcceptedPeriod P q v → ⊥
+Preparation P n q rows status (Some k) = Prepared P n q rows status k
 
 -- The states of the codes below i have no accepted period.
 pub record Round (P : Fdfa) (front : List ℕ) (reached i : ℕ) : Type 0 where
@@ -116,7 +121,6 @@ pub record Chosen (P : Fdfa) (n reached from : ℕ) (rows status front : List �
   pub here : c.code < reached
   pub round : Round P front reached c.code
   pub state : c.state ≡ state_at 0 front c.code
-  pub some : 0 < c.count
   pub prepared : Prepared P n c.state rows status c.count
 
 -- The next such code, or none: then no state that was reached has an accepted period.

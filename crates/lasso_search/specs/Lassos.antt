@@ -1,7 +1,7 @@
 -- A lasso that was found, written to two slices: its parts, whether they fit, and the slices then. Assumes nothing.
-use Rattle.slices.specs.declared.Reason.TheVariants.{FoundTooLong}
 use Rattle.std.specs.Prelude.{List, [], ℕ, ltb, length}
 use Rattle.slices.specs.declared.Part.TheVariants.{Opening, Loop}
+use Rattle.slices.specs.declared.Reason.TheVariants.{FoundTooLong}
 use Rattle.slices.specs.Refusals.{Fault, sound, ◌then◌, when}
 use Rattle.slices.specs.Filling.{filled}
 use Rattle.fdfa.specs.Enumeration.{Witness, absent, lasso}

@@ -1,7 +1,7 @@
 -- What the search for the first lasso says, of inner functions: R, and none or the first accepted and normalized lasso
 -- of a family. Assumes nothing.
-use Rattle.slices.specs.declared.Refusal.{Refusal}
 use Rattle.std.specs.Prelude.{◌≡◌, not, ◌&&◌, List, ℕ, length, Result}
+use Rattle.slices.specs.declared.Refusal.{Refusal}
 use Rattle.slices.specs.Refusals.{unless}
 use Rattle.fdfa.specs.Family.{Fdfa}
 use Rattle.fdfa.specs.Boolean.{product}

@@ -3,7 +3,7 @@ ghost use Rattle.std.specs.Prelude.{◌≡◌, Bool, true, false, ℕ, ◌+◌, 
 ghost use Rattle.search.specs.Words.{Word, ε, run, Over};
 ghost use Rattle.pairing.specs.Pairs.{Alike, leads_of, sizes_of};
 ghost use Rattle.lasso_search.specs.Reporting.{difference};
-ghost use Rattle.lasso_search.specs.Codes.{Tabulated, Fresh, Leads, Room, Round, Prepared, Next, CanFind, Started};
+ghost use Rattle.lasso_search.specs.Codes.{Tabulated, Fresh, Leads, Room, Round, Preparation, Next, CanFind, Started};
 ghost use Rattle.lasso_search.specs.Codes.{Located};
 
 use crate::setting::set_status;
@@ -42,7 +42,7 @@ fn can_end(rows: &[u16], letters: usize, count: usize, status: &mut [u8], cells:
 }
 
 // Makes the table and sets the status for the search from the pair q of leading states. Says how many pairs of progress
-// states it has, or 0 where no period from q is accepted.
+// states it has, or none where no period from q is accepted.
 fn prepare(
     first: &[u8],
     second: &[u8],
@@ -52,10 +52,10 @@ fn prepare(
     rows: &mut [u16],
     status: &mut [u8],
     cells: &mut [u64],
-) -> usize
+) -> Option<usize>
     requires alike { Alike first.now second.now × (t ≡ leads_of first.now second.now) × (q < n) }
     requires room { Room (difference first.now second.now) n (length rows.old) (length status.old) (length cells.old) }
-    ensures { Prepared (difference first.now second.now) n q rows.new status.new result }
+    ensures { Preparation (difference first.now second.now) n q rows.new status.new result }
 {
     let p = q / t.width;
     let r = q % t.width;
@@ -65,11 +65,11 @@ fn prepare(
     pairing::tabulate(first, second, g, count, rows);
     set_status(first, second, m, count, 1, 0, &mut status[..count]);
     if !can_end(rows, g.letters, count, &mut status[..count], cells) {
-        return 0;
+        return None;
     }
     let all = count * n;
     set_status(first, second, m, count, n, q, &mut status[..all]);
-    count
+    Some(count)
 }
 
 // The next leading state, by codes from `from` on, that some period may end at, its table made and the status set.
@@ -94,8 +94,7 @@ fn next_candidate(
     let front = n - 1;
     for i in from..reached {
         let q = search::state_of(&work[..front], i, 0);
-        let count = prepare(first, second, t, n, q, rows, status, &mut work[front..]);
-        if count > 0 {
+        if let Some(count) = prepare(first, second, t, n, q, rows, status, &mut work[front..]) {
             return Some(Candidate {
                 code: i,
                 state: q,

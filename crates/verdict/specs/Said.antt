@@ -1,8 +1,8 @@
 -- What is said on standard error, for people: a refusal in words and, where it is asked for, why a show is accepted or
 -- rejected. Assumes nothing.
-use Rattle.slices.specs.declared.Refusal.{Refusal}
 use Rattle.std.specs.Prelude.{Bool, true, false, cond, List, [], ◌++◌, ℕ, Result, Ok, Err}
 use Prim.Native.Char.{code}
+use Rattle.slices.specs.declared.Refusal.{Refusal}
 use Rattle.slices.specs.Texts.{bytes}
 use Rattle.fdfa.specs.Acceptance.{Verdict}
 use Rattle.numbers.specs.Digits.{field}

@@ -1,7 +1,7 @@
 -- What the verdict program prints. Assumes nothing.
-use Rattle.slices.specs.declared.Refusal.{Refusal}
 use Rattle.std.specs.Prelude.{Bool, true, false, List, ◌++◌, ℕ, Result, Ok, Err}
 use Prim.Native.Char.{code}
+use Rattle.slices.specs.declared.Refusal.{Refusal}
 use Rattle.slices.specs.Texts.{bytes}
 use Rattle.fdfa.specs.Acceptance.{Verdict}
 use Rattle.numbers.specs.Digits.{field}

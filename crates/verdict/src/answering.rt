@@ -7,6 +7,7 @@ ghost use Rattle.verdict.specs.Said.{said_of, sheet_file, show_file, message_tex
 
 use crate::saying::put_judged;
 use crate::text::verdict_text;
+use console::Output;
 use membership::Judgement;
 use sheet_forms::{form_in, is_text};
 use show_files::count_openings;
@@ -16,13 +17,6 @@ use wording::show_words;
 
 // Room for what is said: a name of 4,096 bytes and some words.
 pub const SAID: usize = 4608;
-
-// How many bytes are printed, and how many said.
-#[derive(Clone, Copy)]
-pub struct Printed {
-    pub text: usize,
-    pub said: usize,
-}
 
 // A refusal in words, and why it was judged so where that is asked for.
 fn put_message(
@@ -61,7 +55,7 @@ pub fn put_answer(
     show: &[u8],
     out: &mut [u8],
     said: &mut [u8],
-) -> Printed
+) -> Output
     requires { (length one.now ≤ 4096) × (length two.now ≤ 4096) × (128 ≤ length out.old) ×
         (4608 ≤ length said.old) }
     ensures { Shows (program_text any sheet.now show.now) out.old
@@ -72,5 +66,5 @@ pub fn put_answer(
     let answer = judge_files(any, sheet, show);
     let text = verdict_text(answer, out);
     let words = put_message(any, explain, answer, one, sheet, two, show, said);
-    Printed { text, said: words }
+    Output { text, said: words }
 }

@@ -53,19 +53,18 @@ slice_bounds-prepare-count c = front-in c.requires.alike.0 c.requires.room c.loo
 pub slice_bounds-prepare-start : goal.slice_bounds-prepare-start
 slice_bounds-prepare-start c = front-in c.requires.alike.0 c.requires.room c.loop-i.invariant.work_same
 
-pub returns-then-count-gt0 : goal.returns-then-count-gt0
-returns-then-count-gt0 c =
+pub returns-in-Some : goal.returns-in-Some
+returns-in-Some c =
     let I = c.loop-i.invariant in
     let fits = front-in c.requires.alike.0 c.requires.room I.work_same in
     record {
-      kept = same-front I fits c.state_of-q.ensures c.prepare-count.new.cells c.prepare-count.auto.cells ∙ I.kept;
+      kept = same-front I fits c.state_of-q.ensures c.prepare.new.cells c.prepare.auto.cells ∙ I.kept;
       choice = record {
         later = I.later;
         here = omega arith;
-        round = round₁ I fits c.state_of-q.ensures c.prepare-count.new.cells c.prepare-count.auto.cells;
-        state = state₁ I fits c.state_of-q.ensures c.prepare-count.new.cells c.prepare-count.auto.cells;
-        some = c.if-count-gt0.true;
-        prepared = c.prepare-count.ensures;
+        round = round₁ I fits c.state_of-q.ensures c.prepare.new.cells c.prepare.auto.cells;
+        state = state₁ I fits c.state_of-q.ensures c.prepare.new.cells c.prepare.auto.cells;
+        prepared = c.in-Some.ensures;
       };
     }
 
@@ -74,11 +73,11 @@ loop-i-preserved c =
     let I = c.loop-i.invariant in
     let fits = front-in c.requires.alike.0 c.requires.room I.work_same in
     record {
-      rows_same = c.prepare-count.auto.rows ∙ I.rows_same;
-      status_same = c.prepare-count.auto.status ∙ I.status_same;
-      work_same = work₁-same I fits c.state_of-q.ensures c.prepare-count.new.cells c.prepare-count.auto.cells;
-      kept = same-front I fits c.state_of-q.ensures c.prepare-count.new.cells c.prepare-count.auto.cells ∙ I.kept;
+      rows_same = c.prepare.auto.rows ∙ I.rows_same;
+      status_same = c.prepare.auto.status ∙ I.status_same;
+      work_same = work₁-same I fits c.state_of-q.ensures c.prepare.new.cells c.prepare.auto.cells;
+      kept = same-front I fits c.state_of-q.ensures c.prepare.new.cells c.prepare.auto.cells ∙ I.kept;
       later = omega (arith, I.later);
-      round = round-next (round₁ I fits c.state_of-q.ensures c.prepare-count.new.cells c.prepare-count.auto.cells) (omega arith) (state₁ I fits c.state_of-q.ensures c.prepare-count.new.cells c.prepare-count.auto.cells)
-          (c.prepare-count.ensures.none (omega (arith, c.if-count-gt0.false)));
+      round = round-next (round₁ I fits c.state_of-q.ensures c.prepare.new.cells c.prepare.auto.cells) (omega arith) (state₁ I fits c.state_of-q.ensures c.prepare.new.cells c.prepare.auto.cells)
+          c.in_default.ensures;
     }

@@ -82,13 +82,8 @@ returns-then-not-can_end c =
     let R = c.requires.room in
     let F = read c.requires.alike c.requires.room c.progress-g.ensures c.marks-m.ensures c.size.ensures in
     let P = difference c.args.first.now c.args.second.now in
-    record {
-      none = λ z v L. c.can_end.ensures c.if-not-can_end.true (P.progress c.args.q) (P.accepting c.args.q) (table_of c.args.rows.now F (rows-room R F c.requires.alike.2) c.tabulate.ensures)
-          (alone-back c.args.status.now F c.set_status.ensures) v (subst (λ (x : ℕ). Over x v) (sym F.letters) L.over) L.loops L.accepts;
-      is = λ z. absurd (omega arith);
-      tabled = λ z. absurd (omega arith);
-      fresh = λ z. absurd (omega arith);
-    }
+    λ v L. c.can_end.ensures c.if-not-can_end.true (P.progress c.args.q) (P.accepting c.args.q) (table_of c.args.rows.now F (rows-room R F c.requires.alike.2) c.tabulate.ensures)
+    (alone-back c.args.status.now F c.set_status.ensures) v (subst (λ (x : ℕ). Over x v) (sym F.letters) L.over) L.loops L.accepts
 
 pub set_status-requires-2 : goal.set_status-requires-2
 set_status-requires-2 c =
@@ -106,8 +101,8 @@ returns c =
     let l : List ℕ = c.set_status-2.new.status in
     let M : Fresh l c.args.n c.args.q k (P.accepting c.args.q) = subst (Fresh l c.args.n c.args.q k) F.ends c.set_status-2.ensures in
     record {
-      none = λ z. absurd (omega (arith, F.some, z));
-      is = λ z. F.size;
-      tabled = λ z. subst (λ (x : ℕ). Tabulated c.tabulate.new.out k x (P.progress c.args.q)) F.letters (table_of c.args.rows.now F (rows-room R F c.requires.alike.2) c.tabulate.ensures);
-      fresh = λ z. subst (λ (x : List ℕ). Fresh x c.args.n c.args.q k (P.accepting c.args.q)) (sym (take_at l _ (k * c.args.n) M.long)) M;
+      some = F.some;
+      is = F.size;
+      tabled = subst (λ (x : ℕ). Tabulated c.tabulate.new.out k x (P.progress c.args.q)) F.letters (table_of c.args.rows.now F (rows-room R F c.requires.alike.2) c.tabulate.ensures);
+      fresh = subst (λ (x : List ℕ). Fresh x c.args.n c.args.q k (P.accepting c.args.q)) (sym (take_at l _ (k * c.args.n) M.long)) M;
     }

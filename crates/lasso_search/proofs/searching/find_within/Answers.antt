@@ -1,1 +1,0 @@
--- `lasso_search::searching::find_within` meets its contract. Assumes nothing.
