@@ -1,5 +1,5 @@
--- The first cells of a slice, lent and filled: by a copy, or one by one. Assumes nothing.
-use mathlib.Core.Path.{◌≡◌, ap, ap₂, sym, ◌∙◌}
+-- The first cells of a slice, lent and filled one by one. Assumes nothing.
+use mathlib.Core.Path.{◌≡◌, ap, ◌∙◌}
 use mathlib.Core.List.{List, ◌++◌}
 use Prim.Native.Nat.{ℕ, ◌≤◌}
 use native.Mathlib.Omega.{arith}
@@ -9,10 +9,6 @@ use Rattle.slices.specs.Filling.{written}
 use Rattle.slices.specs.Tables.{tab}
 use Rattle.slices.proofs.Tables.{length-tab}
 use Rattle.slices.proofs.Filling.{Filling, filling-none, filling-all, written-prefix}
-
-pub copied : {d new : List ℕ} (old : List ℕ) {n : ℕ} → new ≡ d → length d ≡ n → new ++ drop n old ≡ written d old
-unfolding written
-copied old e l = ap₂ (λ (x : List ℕ) (k : ℕ). x ++ drop k old) e (sym l)
 
 pub lent_none : (m : ℕ) (f : ℕ → ℕ) (out : List ℕ) → m ≤ length out → Filling m f (take m out) (take m out) 0
 lent_none m f out h = filling-none m f (take m out) (omega (arith, length-take-le m out h))

@@ -6,6 +6,8 @@ ghost use Rattle.packed.specs.Layout.{letter_count, state_count, mark, Valid};
 ghost use Rattle.boolean.specs.Operations.{complement_bytes};
 ghost use Rattle.boolean.specs.Pieces.{flipped_mark, flipped_part};
 
+use slices::copy;
+
 fn flipped(m: u8) -> u8
     ensures { result ≡ mark (not (eqb m 1)) }
 {
@@ -28,7 +30,7 @@ fn flip_part(part: &[u8], count: usize, out: &mut [u8])
     requires { (count ≤ length part.now) × (length part.now ≤ length out.old) }
     ensures { out.new ≡ written (flipped_part part.now count) out.old }
 {
-    out[..count].copy_from_slice(&part[..count]);
+    copy(&part[..count], out);
     flip_marks(&part[count..], &mut out[count..]);
 }
 
@@ -39,7 +41,7 @@ pub fn write_complement(sheet: &[u8], states: usize, letters: usize, out: &mut [
     ensures { out.new ≡ written (complement_bytes sheet.now) out.old }
 {
     let mut at = 2 + states + states * letters;
-    out[..at].copy_from_slice(&sheet[..at]);
+    copy(&sheet[..at], out);
     for q in 0..states {
         let k = packed::size(sheet, q);
         let end = at + k * letters + k;

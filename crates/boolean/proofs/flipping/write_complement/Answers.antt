@@ -3,7 +3,7 @@ use mathlib.Core.Path.{◌≡◌, refl, ap, sym, ◌∙◌}
 use mathlib.Core.List.{List, ◌++◌}
 use Prim.Native.Nat.{ℕ, ◌+◌, ◌*◌, ◌≤◌, ◌<◌}
 use native.Mathlib.Omega.{arith}
-use lib.ListN.{length, take, drop, length-append}
+use lib.ListN.{length, take, length-append}
 use lib.Seq.{length-take-le}
 use Rattle.fdfa.specs.Boolean.{complement}
 use Rattle.slices.specs.Filling.{written}
@@ -13,7 +13,6 @@ use Rattle.packed.specs.Layout.{letter_count, state_count, size_of, progress_at_
 use Rattle.packed.proofs.Bounds.{few-both, progress-first, progress-next, progress-upto, Body, body}
 use Rattle.packed.proofs.Packing.{front_of_lem, length_front, length_part}
 use Rattle.boolean.specs.Operations.{complement_bytes}
-use Rattle.boolean.proofs.Cells.{copied}
 use Rattle.boolean.proofs.Flips.{flipped-part, done, done-length, done_next, done_first, begun-again}
 use Rattle.boolean.proofs.flipping.write_complement.Goals as goal
 
@@ -27,38 +26,23 @@ front-few b n s v e l = (
   omega (arith, v.exact, progress-upto b 0 (state_count b) (omega arith)),
 )
 
-fits : (b : List ℕ) {n s : ℕ} → Valid b → (n ≡ state_count b) × (s ≡ letter_count b) → (2 + n + n * s ≤ length b) × (length (take (2 + n + n * s) b) ≡ 2 + n + n * s)
-fits b {n} {s} v e =
-    let f = front-few b n s v e.0 e.1 in
-    let h : 2 + n + n * s ≤ length b = omega (arith, f.2, f.3) in
-    (h, length-take-le _ b h)
-
 -- the slice after the copy, and its length
-module _ (b out : List ℕ) {n s : ℕ} {new : List ℕ} (v : Valid b) (e : n ≡ state_count b) (l : s ≡ letter_count b) (h : new ≡ take (2 + n + n * s) b) where
-  front : new ++ drop (2 + n + n * s) out ≡ written (front_bytes (decode b)) out
-  front = copied out h (fits b v (e, l)).1 ∙ ap (λ (d : List ℕ). written d out) (ap (λ (k : ℕ). take k b) (front-few b n s v e l).2 ∙ front_of_lem b v)
+module _ (b out : List ℕ) {n s : ℕ} {new : List ℕ} (v : Valid b) (e : n ≡ state_count b) (l : s ≡ letter_count b) (h : new ≡ written (take (2 + n + n * s) b) out) where
+  copied : new ≡ written (front_bytes (decode b)) out
+  copied = h ∙ ap (λ (d : List ℕ). written d out) (ap (λ (k : ℕ). take k b) (front-few b n s v e l).2 ∙ front_of_lem b v)
 
-  kept : length b ≤ length out → length (new ++ drop (2 + n + n * s) out) ≡ length out
-  kept m = (begun_first front (omega (arith, length_front (decode b), progress-first b, (front-few b n s v e l).3))).same
+  kept : length b ≤ length out → length new ≡ length out
+  kept m = (begun_first copied (omega (arith, length_front (decode b), progress-first b, (front-few b n s v e l).3))).same
 
 -- the part of the leading state at hand
 part : (b : List ℕ) {n s q at k : ℕ} → Valid b → (n ≡ state_count b) × (s ≡ letter_count b) → q < n → at ≡ progress_at_value b q → k ≡ size_of b q
     → Body b q at k s
 part b v c h a k = body b v.header v.exact (omega (arith, c.0)) a k c.1
 
-pub slice_bounds-copy_from_slice-end : goal.slice_bounds-copy_from_slice-end
-slice_bounds-copy_from_slice-end c = omega (arith, (fits c.args.sheet.now c.requires.valid.0 c.requires.states_value).0, c.requires.valid.1)
-
-pub slice_bounds-copy_from_slice-end-2 : goal.slice_bounds-copy_from_slice-end-2
-slice_bounds-copy_from_slice-end-2 c = sym (length-take-le _ _ (omega (arith, (fits c.args.sheet.now c.requires.valid.0 c.requires.states_value).0, c.requires.valid.1)))
-
-pub slice_bounds-copy_from_slice-end-3 : goal.slice_bounds-copy_from_slice-end-3
-slice_bounds-copy_from_slice-end-3 c = sym (fits c.args.sheet.now c.requires.valid.0 c.requires.states_value).1
-
-pub copy_from_slice-requires : goal.copy_from_slice-requires
-copy_from_slice-requires c =
-    let f = fits c.args.sheet.now c.requires.valid.0 c.requires.states_value in
-    length-take-le _ _ (omega (arith, f.0, c.requires.valid.1)) ∙ sym f.1
+pub slice_bounds-copy-end : goal.slice_bounds-copy-end
+slice_bounds-copy-end c =
+    let f = front-few c.args.sheet.now c.args.states c.args.letters c.requires.valid.0 c.requires.states_value.0 c.requires.states_value.1 in
+    sym (length-take-le _ _ (omega (arith, f.2, f.3)))
 
 pub loop-q-init : goal.loop-q-init
 loop-q-init c =
@@ -66,7 +50,7 @@ loop-q-init c =
     let v = c.requires.valid.0 in
     let s = c.requires.states_value in (
       (front-few b _ _ v s.0 s.1).2,
-      begun-as (done_first b) (begun-again c.args.out.now (front b c.args.out.now v s.0 s.1 c.copy_from_slice.ensures.after)),
+      begun-as (done_first b) (begun-again c.args.out.now (copied b c.args.out.now v s.0 s.1 c.copy.ensures)),
     )
 
 pub overflow_add-end : goal.overflow_add-end
@@ -92,7 +76,7 @@ loop-q-preserved c =
     let q : c.loop-q.q < state_count b = omega (arith, s.0) in
     let p = part b v s c.loop-q-test.true c.loop-q.invariant.0 c.size-k.ensures in
     let room : c.loop-q.at + c.size-k.result * c.args.letters + c.size-k.result ≤ length c.loop-q.out =
-    omega (arith, p.within, c.requires.valid.1, kept b c.args.out.now v s.0 s.1 c.copy_from_slice.ensures.after c.requires.valid.1, c.loop-q.invariant.1.same)
+    omega (arith, p.within, c.requires.valid.1, kept b c.args.out.now v s.0 s.1 c.copy.ensures c.requires.valid.1, c.loop-q.invariant.1.same)
     in
     let chunk = flipped-part b v q c.loop-q.invariant.0 c.size-k.ensures s.1 refl in (
       p.next,
@@ -109,7 +93,7 @@ returns c =
     let s = c.requires.states_value in
     let e : c.loop-q.q ≡ state_count b = omega (arith, s.0) in
     c.loop-q.invariant.1.cells
-    ∙ (ap (λ (k : ℕ). written (done b k) (c.copy_from_slice.new.self ++ drop (2 + c.args.states + c.args.states * c.args.letters) c.args.out.now)) e
-    ∙ (ap (written (complement_bytes b)) (front b c.args.out.now v s.0 s.1 c.copy_from_slice.ensures.after)
+    ∙ (ap (λ (k : ℕ). written (done b k) c.copy.new.out) e
+    ∙ (ap (written (complement_bytes b)) (copied b c.args.out.now v s.0 s.1 c.copy.ensures)
     ∙ written-again (front_bytes (decode b)) (complement_bytes b) c.args.out.now
     (omega (arith, length-append (front_bytes (decode b)) (rows (state_count b) (part_bytes (complement (decode b))))))))
