@@ -7,6 +7,8 @@ use mathlib.Core.List.{List}
 use Prim.Native.Nat.{ℕ}
 use Rattle.slices.specs.declared.Part.TheVariants.{First}
 use Rattle.slices.specs.declared.Refusal.{Refusal}
+use Rattle.slices.specs.Refusals.{number_of}
+use Rattle.slices.proofs.Reasons.{own-number}
 use Rattle.format.specs.Format.{Found}
 use Rattle.format.proofs.Narrower.{Staged, tested, second-never, both_found, first-only, staged-then, narrower-literal, staged-closing, staged-repeated}
 use Rattle.buchi_import.specs.Text.{start_line}
@@ -33,9 +35,9 @@ module _ (limit : ℕ) (t : List ℕ) where
 pub wider : (limit : ℕ) (t : List ℕ) (w : Numbers) → numbers_below limit t ≡ Ok w → numbers_below 1000 t ≡ Ok w
 wider limit t w e = both_found (stages limit t) e
 
--- the first reading refuses no next state
-pub first-no-five : (t : List ℕ) (r : Refusal) → numbers_below 1000 t ≡ Err r → r.reason ≡ NextState → ⊥
-first-no-five t r e = second-never (stages 1000 t) e
+-- the first reading gives no 5
+pub first-no-five : (t : List ℕ) (r : Refusal) → numbers_below 1000 t ≡ Err r → number_of r.reason ≡ 5 → ⊥
+first-no-five t r e five = second-never (stages 1000 t) e (own-number r.reason NextState five)
 
 -- where it refuses nothing, the second refuses a next state only
 pub second-five : (t : List ℕ) (w : Numbers) (r : Refusal) → numbers_below 1000 t ≡ Ok w → numbers_of t ≡ Err r → r.reason ≡ NextState

@@ -1,4 +1,5 @@
 pub mod Refusals
+pub mod Reasons
 pub mod Filling
 pub mod Tables
 pub mod Extremes

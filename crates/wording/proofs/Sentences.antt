@@ -1,4 +1,4 @@
--- The sentences of refusals: none is long, none is empty, and no two reasons have the same. Assumes nothing.
+-- The sentences of refusals: none is long, none is empty, no two reasons have the same, and a number has one. Assumes nothing.
 use mathlib.Core.Path.{◌≡◌, refl, ap, sym, ◌∙◌}
 use mathlib.Core.Bool.{Bool, true, false, cond, ◌&&◌}
 use mathlib.Core.List.{List, [], ◌∷◌}
@@ -12,6 +12,8 @@ use Rattle.slices.specs.declared.Reason.TheVariants.{MarkByte, LettersDiffer, Em
 use Rattle.slices.specs.declared.Reason.TheVariants.{OffLayout, OutOfTurn, NoneAccepting, SecondsRange, ProductSize}
 use Rattle.slices.specs.declared.Reason.TheVariants.{TooLittleRoom, TooFewCells, FoundTooLong, CursorPastEnd}
 use Rattle.slices.specs.declared.Reason.TheVariants.{FileTooLong, PartTooLong, CartCount, CartLength}
+use Rattle.slices.specs.Refusals.{number_of}
+use Rattle.slices.proofs.Reasons.{reasons, own-number}
 use Rattle.wording.specs.Words.{sentence}
 
 pub sentence-short : (q : Reason) → length (sentence q) ≤ 80
@@ -23,12 +25,6 @@ pub sentence-some : (q : Reason) → 1 ≤ length (sentence q)
 unfolding sentence
 sentence-some SheetLength = omega arith
 sentence-some _ = omega arith
-
-abbrev reasons : List Reason
-reasons =
-    SheetLength ∷ LetterCount ∷ StateCount ∷ ProgressSize ∷ NextState ∷ MarkByte ∷ LettersDiffer ∷ EmptyLoop ∷ UnknownLetter
-    ∷ UnknownLevel ∷ OffLayout ∷ OutOfTurn ∷ NoneAccepting ∷ SecondsRange ∷ ProductSize ∷ TooLittleRoom ∷ TooFewCells
-    ∷ FoundTooLong ∷ CursorPastEnd ∷ FileTooLong ∷ PartTooLong ∷ CartCount ∷ CartLength ∷ []
 
 same : List ℕ → List ℕ → Bool
 same [] [] = true
@@ -49,3 +45,7 @@ reason-is _ = refl
 -- Every reason has a sentence of its own.
 pub own-sentence : (q r : Reason) → sentence q ≡ sentence r → q ≡ r
 own-sentence q r e = sym (reason-is q) ∙ (ap (reason-of reasons) e ∙ reason-is r)
+
+-- So has every number: it stands for one reason.
+pub one-sentence : (q r : Reason) → number_of q ≡ number_of r → sentence q ≡ sentence r
+one-sentence q r e = ap sentence (own-number q r e)
