@@ -1,7 +1,7 @@
 // Membership of a lasso: whether a family of DFAs accepts the pair of a prefix and a period, with its normalization.
 #![tactic(auto)]
 
-ghost use Rattle.std.specs.Prelude.{◌≡◌, ◌<◌};
+ghost use Rattle.std.specs.Prelude.{◌≡◌, Err, ◌<◌};
 ghost use Rattle.fdfa.specs.Words.{Over};
 ghost use Rattle.packed.specs.Layout.{letter_count, state_count, decode, Valid};
 ghost use Rattle.packed.specs.Faults.{sizes_of};
@@ -95,13 +95,29 @@ fn progress(sheet: &[u8], letters: usize, q: usize, period: &[u8], count: usize)
     }
 }
 
+// A check that refused, as the answer.
+fn refused(checked: Result<usize, Refusal>) -> Result<Judgement, Refusal>
+    ensures { (r : Refusal) → checked ≡ Err r → result ≡ Err r }
+{
+    checked.map(|state| Judgement {
+        accepted: false,
+        i: 0,
+        j: 0,
+        state,
+        end: 0,
+    })
+}
+
 // The verdict of a good sheet: the walk over the period goes on from where the pass over the prefix came to.
 fn judge(sheet: &[u8], z: Sizes, prefix: &[u8], period: &[u8]) -> Result<Judgement, Refusal>
     requires { Valid sheet.now × (z ≡ sizes_of sheet.now) }
     ensures { says_of result ≡ judged_lasso sheet.now prefix.now period.now }
 {
     let table = packed::columns(sheet, 2 + z.states, z.letters, z.states);
-    let state = check(&table, z.letters, prefix, period)?;
+    let checked = check(&table, z.letters, prefix, period);
+    let Ok(state) = checked else {
+        return refused(checked);
+    };
     let n = normalize(&table, state, period);
     let ended = progress(sheet, z.letters, n.state, period, n.j);
     Ok(Judgement {
