@@ -1,7 +1,7 @@
--- The numbers of reasons: each reason has its own, and they are those of the list. Assumes nothing.
+-- All reasons: what is of each its own, and their numbers. Assumes nothing.
 use mathlib.Core.Path.{◌≡◌, refl, ap, sym, ◌∙◌}
-use mathlib.Core.Bool.{cond}
-use mathlib.Core.List.{List, [], ◌∷◌}
+use mathlib.Core.Bool.{Bool, cond}
+use mathlib.Core.List.{List, [], ◌∷◌, map}
 use Prim.Native.Nat.{ℕ}
 use lib.Dec.{eqb}
 use Rattle.slices.specs.declared.Reason.{Reason}
@@ -19,25 +19,26 @@ reasons =
     ∷ UnknownLevel ∷ OffLayout ∷ OutOfTurn ∷ NoneAccepting ∷ SecondsRange ∷ ProductSize ∷ TooLittleRoom ∷ TooFewCells
     ∷ FoundTooLong ∷ CursorPastEnd ∷ FileTooLong ∷ PartTooLong ∷ CartCount ∷ CartLength ∷ []
 
-abbrev pub numbers_in : List Reason → List ℕ
-numbers_in [] = []
-numbers_in (q ∷ qs) = number_of q ∷ numbers_in qs
+-- the first of some reasons that has a key
+unfoldable pub keyed : {A : Type 0} → (A → A → Bool) → (Reason → A) → List Reason → A → Reason
+keyed same key [] k = CartLength
+keyed same key (q ∷ qs) k = cond (same (key q) k) q (keyed same key qs k)
+
+-- Where each reason is found by its key, each has a key of its own.
+pub own-key : {A : Type 0} (same : A → A → Bool) (key : Reason → A) → ((q : Reason) → keyed same key reasons (key q) ≡ q)
+    → (q r : Reason) → key q ≡ key r → q ≡ r
+own-key same key found q r e = sym (found q) ∙ (ap (keyed same key reasons) e ∙ found r)
 
 -- The number of each reason, in the order above.
-pub listed-numbers : numbers_in reasons
+pub listed-numbers : map number_of reasons
     ≡ 1 ∷ 2 ∷ 3 ∷ 4 ∷ 5 ∷ 6 ∷ 7 ∷ 8 ∷ 9 ∷ 10 ∷ 11 ∷ 12 ∷ 13 ∷ 14 ∷ 20 ∷ 21 ∷ 22 ∷ 23 ∷ 24 ∷ 25 ∷ 26 ∷ 27 ∷ 28 ∷ []
 listed-numbers = refl
 
--- the reason that a number is of: the first of a list that has it
-reason-of : List Reason → ℕ → Reason
-reason-of [] n = CartLength
-reason-of (q ∷ qs) n = cond (eqb (number_of q) n) q (reason-of qs n)
-
-reason-is : (q : Reason) → reason-of reasons (number_of q) ≡ q
-unfolding reason-of
-reason-is SheetLength = refl
-reason-is _ = refl
+found-number : (q : Reason) → keyed eqb number_of reasons (number_of q) ≡ q
+unfolding keyed
+found-number SheetLength = refl
+found-number _ = refl
 
 -- Every reason has a number of its own.
 pub own-number : (q r : Reason) → number_of q ≡ number_of r → q ≡ r
-own-number q r e = sym (reason-is q) ∙ (ap (reason-of reasons) e ∙ reason-is r)
+own-number = own-key eqb number_of found-number

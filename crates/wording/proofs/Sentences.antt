@@ -13,7 +13,7 @@ use Rattle.slices.specs.declared.Reason.TheVariants.{OffLayout, OutOfTurn, NoneA
 use Rattle.slices.specs.declared.Reason.TheVariants.{TooLittleRoom, TooFewCells, FoundTooLong, CursorPastEnd}
 use Rattle.slices.specs.declared.Reason.TheVariants.{FileTooLong, PartTooLong, CartCount, CartLength}
 use Rattle.slices.specs.Refusals.{number_of}
-use Rattle.slices.proofs.Reasons.{reasons, own-number}
+use Rattle.slices.proofs.Reasons.{reasons, keyed, own-key, own-number}
 use Rattle.wording.specs.Words.{sentence}
 
 pub sentence-short : (q : Reason) → length (sentence q) ≤ 80
@@ -32,19 +32,14 @@ same [] (y ∷ ys) = false
 same (x ∷ xs) [] = false
 same (x ∷ xs) (y ∷ ys) = eqb x y && same xs ys
 
--- the reason that a sentence is of: the first of a list that has it
-reason-of : List Reason → List ℕ → Reason
-reason-of [] s = CartLength
-reason-of (q ∷ qs) s = cond (same (sentence q) s) q (reason-of qs s)
-
-reason-is : (q : Reason) → reason-of reasons (sentence q) ≡ q
-unfolding sentence same reason-of
-reason-is SheetLength = refl
-reason-is _ = refl
+found-sentence : (q : Reason) → keyed same sentence reasons (sentence q) ≡ q
+unfolding sentence same keyed
+found-sentence SheetLength = refl
+found-sentence _ = refl
 
 -- Every reason has a sentence of its own.
 pub own-sentence : (q r : Reason) → sentence q ≡ sentence r → q ≡ r
-own-sentence q r e = sym (reason-is q) ∙ (ap (reason-of reasons) e ∙ reason-is r)
+own-sentence = own-key same sentence found-sentence
 
 -- So has every number: it stands for one reason.
 pub one-sentence : (q r : Reason) → number_of q ≡ number_of r → sentence q ≡ sentence r
